@@ -97,7 +97,7 @@ console.log(JSON.stringify([WORDS, lines.map(piecesOfLine)]));
 
 def words_of_lexer():
     """The words of the lexer: those that are taken, and those that are refused."""
-    text = report.text_of('crates', 'sa_lex', 'src', 'word.rt')
+    text = report.text_of('crates', 'sa_lexer', 'src', 'word.rt')
     spelled = dict(re.findall(r'Word::(\w+) => "(\w+)"', text))
     refused = re.findall(r'Word::(\w+)', re.search(r'fn is_refused.*?matches!\((.*?)\)', text, re.S).group(1))
     return [spelled[word] for word in spelled if word not in refused], [spelled[word] for word in refused]

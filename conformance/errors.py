@@ -1,8 +1,8 @@
 #!/usr/bin/env python3
 """errors.py PROGRAM [--only WORD]
 
-Compares docs/ERRORS.md with what the program tells. Each line on err that the program can end with, by the specs of sa_tree
-(Rules.antt, Faults.antt) and of sa_drive (Lines.antt, Status.antt), has one section of the page, which begins with the line and its
+Compares docs/ERRORS.md with what the program tells. Each line on err that the program can end with, by the specs of sa_ast
+(Rules.antt, Faults.antt) and of sa_driver (Lines.antt, Status.antt), has one section of the page, which begins with the line and its
 status, and the page's contents lead to it. A section has a program or a command line that gives its line, and one that ends well;
 each is run in a folder of its own, and has to leave exactly what the page says behind it. --only takes the sections whose names
 hold a word."""
@@ -44,10 +44,10 @@ def forms(expression, texts):
 
 def lines():
     """Each line that the program can end with, by its form."""
-    texts = {'rule_text': re.findall(r'^rule_text \S+ = ' + CODES.pattern, report.text_of('crates/sa_tree/specs/Rules.antt'), re.M),
-             'fault_text': re.findall(r'^fault_text \S+ = ' + CODES.pattern, report.text_of('crates/sa_tree/specs/Faults.antt'), re.M)}
-    statuses = dict(re.findall(r'^status_of \(?(\w+).* = (\d+)$', report.text_of('crates/sa_drive/specs/Status.antt'), re.M))
-    equations = dict(re.findall(r'^(\w.*?) = (.+)$', report.text_of('crates/sa_drive/specs/Lines.antt'), re.M))
+    texts = {'rule_text': re.findall(r'^rule_text \S+ = ' + CODES.pattern, report.text_of('crates/sa_ast/specs/Rules.antt'), re.M),
+             'fault_text': re.findall(r'^fault_text \S+ = ' + CODES.pattern, report.text_of('crates/sa_ast/specs/Faults.antt'), re.M)}
+    statuses = dict(re.findall(r'^status_of \(?(\w+).* = (\d+)$', report.text_of('crates/sa_driver/specs/Status.antt'), re.M))
+    equations = dict(re.findall(r'^(\w.*?) = (.+)$', report.text_of('crates/sa_driver/specs/Lines.antt'), re.M))
     found = {}
     for left, right in equations.items():
         if match := re.fullmatch(r'line_of_cause sources file \(?(\w+).*', left):

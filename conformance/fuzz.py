@@ -7,7 +7,7 @@ promise of every input: source_verdicts.py, contract_verdicts.py and module_verd
 
 The seed, which is printed at the start, and the number of an input are all that it is made of. What breaks a promise is told, and
 kept in FOLDER, as it was and made smaller (shrinking.py), with what to type to see it again. N jobs work side by side, one a
-processor without --jobs. TREE is the program `typed_tree`; where it is given, programs are run by the written meaning too. FILE gets
+processor without --jobs. TREE is the program `dump_typed`; where it is given, programs are run by the written meaning too. FILE gets
 a line at the end, and one every five minutes until then: the seed, and how many inputs of each sort were judged since the start."""
 import argparse
 import collections

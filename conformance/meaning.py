@@ -2,7 +2,7 @@
 """meaning.py TREE FILE.. [--room KIB] [--turns N] [--trace]
 
 Runs the typed tree of a program by the written meaning of the language, on the input from standard input. TREE is the program
-`typed_tree`, which prints the tree of the sources in the files. Prints what the program puts, and on standard error how it ended
+`dump_typed`, which prints the tree of the sources in the files. Prints what the program puts, and on standard error how it ended
 and how many turns it spent: the status, a fault by its number with the file and the byte at which it stands, or that N turns
 weren't enough; with --trace, before that, what became of the instances of iters.
 
@@ -89,7 +89,7 @@ def with_large_stack(work):
         return pool.submit(work).result()
 
 
-def typed_tree(program, files, folder=None):
+def dump_typed(program, files, folder=None):
     """The typed tree of the sources in these files, or the rule that refuses them, with a position."""
     done = subprocess.run([program, *files], cwd=folder, capture_output=True, check=True)
     return json.loads(done.stdout)
@@ -103,7 +103,7 @@ def main():
     words.add_argument('--turns', type=int, default=10 ** 9)
     words.add_argument('--trace', action='store_true')
     given = words.parse_args()
-    tree = typed_tree(given.tree, given.files)
+    tree = dump_typed(given.tree, given.files)
     if isinstance(tree, list):
         print(*tree, file=sys.stderr)
         return 1

@@ -116,7 +116,7 @@ def empty_ones(found):
 
 def spellings():
     """How words and signs are spelled, as the lexer has it."""
-    texts = [report.text_of('crates/sa_lex/specs', name) for name in ('Words.antt', 'Signs.antt')]
+    texts = [report.text_of('crates/sa_lexer/specs', name) for name in ('Words.antt', 'Signs.antt')]
     return {(kind.capitalize(), name): '"%s"' % text for kind, name, text in SPELLING.findall('\n'.join(texts))}
 
 

@@ -6,9 +6,9 @@ import re
 
 import report
 
-FILES = ['sa_parse_expr/specs/Lexemes', 'sa_parse_expr/specs/Types', 'sa_parse_expr/specs/Expressions', 'sa_parse/specs/Names',
-         'sa_parse/specs/Statements', 'sa_parse/specs/Signatures', 'sa_parse/specs/Conditions', 'sa_parse/specs/Features',
-         'sa_parse/specs/Classes']
+FILES = ['sa_parser_expr/specs/Lexemes', 'sa_parser_expr/specs/Types', 'sa_parser_expr/specs/Expressions', 'sa_parser/specs/Names',
+         'sa_parser/specs/Statements', 'sa_parser/specs/Signatures', 'sa_parser/specs/Conditions', 'sa_parser/specs/Features',
+         'sa_parser/specs/Classes']
 HEAD = re.compile(r'(?:(?:pub|private) )*(data|record|abbrev|unfoldable)(?: pub| private)* (\w+) (.*)')
 NAME = re.compile(r'(?:\w+\.)*[A-Z]\w*')
 

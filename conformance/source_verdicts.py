@@ -6,7 +6,7 @@ line of `check --all` is that of `check`, and it is the only one where that isn'
 
 What is accepted has a module that `exec` runs as `run` runs the source, to an end of the table; the steps are within the fuel, with
 fuel for all of them the run is the same, and with a step less the fuel is spent; V8 and wabt take the module, and V8 runs it alike.
-Where the program `typed_tree` is given, the typed tree has the same end by the written meaning, in at most as many turns as the run
+Where the program `dump_typed` is given, the typed tree has the same end by the written meaning, in at most as many turns as the run
 has steps; runs of more than 200,000 steps are interpreted where a source is judged in full alone.
 
 Of one that is judged in full also: a start of its own answers alike, to `check` and to `run`, and each promise is tried by a call of
@@ -96,7 +96,7 @@ def as_meant(host, one, made):
     steps."""
     if host.tree is None or made.ran.line == SPENT or made.steps > INTERPRETED and not one.fully:
         return
-    tree = json.loads(host.typed_tree('f.sa'))
+    tree = json.loads(host.dump_typed('f.sa'))
     require(isinstance(tree, dict), 'the typed tree of an accepted source is there', tree)
     try:
         answer = meaning.run_tree(tree, GIVEN, ROOM, made.steps)

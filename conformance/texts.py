@@ -4,7 +4,7 @@ texts.py --write
 
 Holds the texts that `sather explain` and `sather lib` print to the files that they come from:
 
-- crates/sa_pages/src/errors has the sections of docs/ERRORS.md in parts, and crates/sa_pages/src/library the files of lib/; both are
+- crates/sa_texts/src/errors has the sections of docs/ERRORS.md in parts, and crates/sa_texts/src/library the files of lib/; both are
   what this script writes with --write;
 - `sather explain WORD` prints the section of each code, of each text of a line, and of both as they stand in a line;
 - `sather lib` lists the files of lib/ with what each has, and `sather lib NAME` prints one, with `.sa` or without.
@@ -21,7 +21,7 @@ import library
 import report
 from report import Left
 
-CRATE = os.path.join(report.TOP, 'crates', 'sa_pages', 'src')
+CRATE = os.path.join(report.TOP, 'crates', 'sa_texts', 'src')
 COLUMNS = 79
 WIDTH, ROW_WIDTH, SHORT = 100, 60, 10
 PARTS = 12

@@ -8,7 +8,7 @@ device, the examples, and N random ones, 100 without --count, from the number S 
 - the lines before that are a trace: instances are numbered from 0 in the order of their starts; what begins with a start or a
   resumption ends with the yield, the quit or the abandonment of the same instance, and what lies between begins and ends inside it;
   only an instance that has yielded is resumed, or abandoned from outside; and nothing is told of one that has quit or is abandoned;
-- where TREE is given, the program `typed_tree`, the lines are those of the events that the run of the tree has by the written
+- where TREE is given, the program `dump_typed`, the lines are those of the events that the run of the tree has by the written
   meaning (meaning.py). Of a program whose fuel is spent they are a front of these.
 
 What docs/ITERS.md shows of traces has to be what the programs there tell: all of it, or what it begins or ends with, as the page
@@ -106,7 +106,7 @@ def first_difference(told, wanted):
 
 def unmeant(tree_program, words, given, folder, trace, spent):
     """Where the lines of a trace aren't those of the meaning, or None."""
-    tree = meaning.typed_tree(tree_program, words.files, folder)
+    tree = meaning.dump_typed(tree_program, words.files, folder)
     answer = meaning.run_tree(tree, given, words.room, MOST_TURNS, traced=True)
     wanted = answer.trace(words.files)
     if trace == wanted or spent and wanted.startswith(trace) or answer.end == ('spent',) and trace.startswith(wanted):

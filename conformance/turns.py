@@ -5,7 +5,7 @@ Compares programs compiled by PROGRAM with their meaning, and the machine steps 
 
 The programs are those of the table of cases with the words `run ..`, no failing device, no flag `--contracts` and an accepted
 source, the examples, some that spend turns with little else to do, and N random ones, 100 without --count, from the number S on
-(see random_programs.py). TREE is the program `typed_tree`, whose tree meaning.py runs. `PROGRAM run --stats` has to leave the output and the end of that run, the same status or the same fault in the
+(see random_programs.py). TREE is the program `dump_typed`, whose tree meaning.py runs. `PROGRAM run --stats` has to leave the output and the end of that run, the same status or the same fault in the
 same line, and the steps have to be
 
 - at least as many as the turns, and
@@ -128,7 +128,7 @@ def tried(program, tree_program, slow, task):
         if not ran.stats:
             return Tried(left_out='programs of cases that are refused')
         words = Words(words)
-        tree = meaning.typed_tree(tree_program, words.files, folder)
+        tree = meaning.dump_typed(tree_program, words.files, folder)
     if isinstance(tree, list):
         return Tried(wrong='the tree is refused: %s' % tree)
     most, steps = bound(tree), int(judges.STATS.search(ran.stats).group(1))

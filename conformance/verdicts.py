@@ -43,7 +43,7 @@ def require(holds, promise, *shown):
 
 
 class Host:
-    """The program and the other judges, in a folder. `tree` is the path of the program `typed_tree` or None, and `library` that of
+    """The program and the other judges, in a folder. `tree` is the path of the program `dump_typed` or None, and `library` that of
     the library that keeps programs started, or None."""
 
     def __init__(self, program, tree, folder, library):
@@ -69,8 +69,8 @@ class Host:
         require(left.status >= 0, 'it ends by itself', 'signal %d at %s' % (-left.status, ' '.join(words)))
         return left
 
-    def typed_tree(self, name):
-        """The text that the program `typed_tree` gives for a file."""
+    def dump_typed(self, name):
+        """The text that the program `dump_typed` gives for a file."""
         left = self.tree.call([name])
         require(left.status == 0, 'the typed tree is told', left)
         return left.output

@@ -1,11 +1,11 @@
 //! A program with all its classes, of which each feature is told that is refused.
 
+use crate::feature_refusals::{Diagnostics, Extent};
 use crate::others::{with_main, with_others};
-use crate::refused::{Refused, Wanted};
 use crate::whole::checked;
-use sa_core::Core;
+use sa_ast::{Class, FlatClass, Refusal, Rejection};
 use sa_include::flatten;
-use sa_tree::{Class, Flat, FrontFault, Refusal};
+use sa_typed::TypedProgram;
 use sqlite_items::Items;
 use std::alloc::Global;
 
@@ -24,9 +24,9 @@ pub fn check_all(
     classes: &[Class],
     texts: &[Items<u8>],
     further: &mut Vec<Refusal>,
-) -> Result<Core, FrontFault> {
+) -> Result<TypedProgram, Rejection> {
     let flat = with_main(alloc, flatten(alloc, classes)?)?;
-    let mut refused = Refused::new(alloc, Wanted::OfEach);
+    let mut refused = Diagnostics::new(alloc, Extent::OfEach);
     let core = typed_with_others(alloc, flat, texts, &mut refused);
     refused.answer(core, further)
 }
@@ -35,10 +35,10 @@ pub fn check_all(
 /// refused.
 fn typed_with_others(
     alloc: Global,
-    flat: Flat,
+    flat: FlatClass,
     texts: &[Items<u8>],
-    refused: &mut Refused,
-) -> Result<Core, FrontFault> {
+    refused: &mut Diagnostics,
+) -> Result<TypedProgram, Rejection> {
     drop(checked(alloc, &flat, texts, refused)?);
     let flat = with_others(alloc, flat)?;
     checked(alloc, &flat, texts, refused)

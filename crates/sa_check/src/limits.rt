@@ -1,7 +1,7 @@
 //! The size of a typed program, and the number of its dispatch pairs.
 
+use sa_ast::{Pos, Rejection, Rule};
 use sa_check_simple::MOST_NODES;
-use sa_tree::{FrontFault, Pos, Rule};
 
 /// How many pairs of a signature and a concrete type below its own a program has at most.
 pub(crate) const MOST_PAIRS: u32 = 100_000;
@@ -32,7 +32,7 @@ impl Size {
     }
 
     /// E55 where the sum has passed its limit.
-    pub(crate) fn within(&self) -> Result<(), FrontFault> {
+    pub(crate) fn within(&self) -> Result<(), Rejection> {
         match self.passed {
             None => Ok(()),
             Some(name) => Err(Rule::ProgramTooLarge.at(name).into()),

@@ -3,12 +3,12 @@
 
 ghost use Rattle.std.specs.Prelude.{◌<◌, length, IfSome};
 
-use sa_check_program::Program;
-use sa_subtypes::Edges;
-use sa_tree::{
-    Access, Class, Feature, Flat, Formal, FrontFault, Kind, Local, Mode, Name, NoMemory, Param,
-    Part, Pos, Shared, Ty, held,
+use sa_ast::{
+    Access, Class, ClassKind, Feature, FeatureBody, FlatClass, FormalParam, Local, Mode, Name,
+    NoMemory, Pos, Rejection, Shared, Ty, TypeParam, held,
 };
+use sa_instantiate::Instances;
+use sa_subtypes::SubtypeRelation;
 use sa_types::subst;
 use sqlite_items::Items;
 use std::alloc::Global;
@@ -27,14 +27,14 @@ enum Which {
 }
 
 /// The flattened classes of a program, with a MAIN whose `main` does nothing where there is none.
-pub(crate) fn with_main(alloc: Global, flat: Flat) -> Result<Flat, NoMemory> {
+pub(crate) fn with_main(alloc: Global, flat: FlatClass) -> Result<FlatClass, NoMemory> {
     if place_of_main(flat.classes.as_slice()).is_some() {
         return Ok(flat);
     }
-    let Flat { classes } = flat;
+    let FlatClass { classes } = flat;
     let mut classes = classes;
     classes.push(empty_main(alloc)?)?;
-    Ok(Flat { classes })
+    Ok(FlatClass { classes })
 }
 
 /// The flattened classes of a program in which MAIN needs all classes of the files, but for partial ones, which are no types, and
@@ -45,7 +45,7 @@ pub(crate) fn with_main(alloc: Global, flat: Flat) -> Result<Flat, NoMemory> {
 /// # Errors
 ///
 /// The first refusal by the rules on supertypes, on `main` and on the needed types, and `NoMemory`.
-pub(crate) fn with_others(alloc: Global, flat: Flat) -> Result<Flat, FrontFault> {
+pub(crate) fn with_others(alloc: Global, flat: FlatClass) -> Result<FlatClass, Rejection> {
     let types = others(alloc, &flat, Which::WithoutParameters)?;
     let flat = with_types(alloc, flat, types)?;
     let types = others(alloc, &flat, Which::WithParameters)?;
@@ -70,11 +70,11 @@ fn empty_main(alloc: Global) -> Result<Class, NoMemory> {
         file: FIRST_FILE,
         at: 0,
     };
-    let body = Part::Routine(Shared::new(alloc, Items::new(alloc))?);
+    let body = FeatureBody::Routine(Shared::new(alloc, Items::new(alloc))?);
     let mut features = Items::new(alloc);
     features.push(feature(alloc, b"main", pos, Items::new(alloc), body)?)?;
     Ok(Class {
-        kind: Kind::Reference,
+        kind: ClassKind::Reference,
         name: local(alloc, b"MAIN", pos)?,
         params: Items::new(alloc),
         below: Items::new(alloc),
@@ -85,17 +85,21 @@ fn empty_main(alloc: Global) -> Result<Class, NoMemory> {
 }
 
 /// The same classes, with a feature of MAIN that has arguments of these types. MAIN stands behind the others then.
-fn with_types(alloc: Global, flat: Flat, types: Items<Formal>) -> Result<Flat, NoMemory> {
-    let Flat { classes } = flat;
+fn with_types(
+    alloc: Global,
+    flat: FlatClass,
+    types: Items<FormalParam>,
+) -> Result<FlatClass, NoMemory> {
+    let FlatClass { classes } = flat;
     let mut classes = classes;
     let Some(place) = place_of_main(classes.as_slice()) else {
         return Err(NoMemory);
     };
     let mut main = classes.remove(place);
-    let naming = feature(alloc, b"", main.name.pos, types, Part::Stub)?;
+    let naming = feature(alloc, b"", main.name.pos, types, FeatureBody::Stub)?;
     main.features.push(naming)?;
     classes.push(main)?;
-    Ok(Flat { classes })
+    Ok(FlatClass { classes })
 }
 
 /// A private feature without a result.
@@ -103,8 +107,8 @@ fn feature(
     alloc: Global,
     name: &[u8],
     pos: Pos,
-    formals: Items<Formal>,
-    part: Part,
+    formals: Items<FormalParam>,
+    part: FeatureBody,
 ) -> Result<Feature, NoMemory> {
     Ok(Feature {
         name: local(alloc, name, pos)?,
@@ -123,9 +127,9 @@ fn local(alloc: Global, name: &[u8], pos: Pos) -> Result<Local, NoMemory> {
 }
 
 /// An argument of the type of each class of a kind that nothing needs, in text order.
-fn others(alloc: Global, flat: &Flat, which: Which) -> Result<Items<Formal>, FrontFault> {
-    let edges = Edges::make(alloc, flat)?;
-    let program = Program::needed(alloc, flat, &edges)?;
+fn others(alloc: Global, flat: &FlatClass, which: Which) -> Result<Items<FormalParam>, Rejection> {
+    let edges = SubtypeRelation::make(alloc, flat)?;
+    let program = Instances::instantiate(alloc, flat, &edges)?;
     let needed = needed_places(alloc, &program, flat.classes.len())?;
     Ok(formals(alloc, flat.classes.as_slice(), which, needed.as_slice())?)
 }
@@ -133,7 +137,7 @@ fn others(alloc: Global, flat: &Flat, which: Which) -> Result<Items<Formal>, Fro
 /// For each of so many classes whether a needed type is of it.
 fn needed_places(
     alloc: Global,
-    program: &Program<'_>,
+    program: &Instances<'_>,
     classes: usize,
 ) -> Result<Vec<bool>, NoMemory> {
     let mut needed = vec![in alloc; false; classes]?;
@@ -152,7 +156,7 @@ fn formals(
     classes: &[Class],
     which: Which,
     needed: &[bool],
-) -> Result<Items<Formal>, NoMemory> {
+) -> Result<Items<FormalParam>, NoMemory> {
     let mut formals = Items::new(alloc);
     for (class, is_needed) in classes.iter().zip(needed.iter()) {
         if !*is_needed && is_among(class, which) {
@@ -169,15 +173,19 @@ fn is_among(class: &Class, which: Which) -> bool {
         Which::WithoutParameters => !has_parameters,
         Which::WithParameters => has_parameters,
     };
-    is_of_kind && class.kind != Kind::Partial && class.name.pos.file != PRELUDE
+    is_of_kind && class.kind != ClassKind::Partial && class.name.pos.file != PRELUDE
 }
 
 /// Adds an argument of the type of a class, if it is one at its bounds.
-fn add_formal(alloc: Global, class: &Class, formals: &mut Items<Formal>) -> Result<(), NoMemory> {
+fn add_formal(
+    alloc: Global,
+    class: &Class,
+    formals: &mut Items<FormalParam>,
+) -> Result<(), NoMemory> {
     if let Some(ty) = at_bounds(alloc, class)? {
         let local = local(alloc, b"", class.name.pos)?;
         let mode = Mode::In;
-        formals.push(Formal { mode, local, ty })?;
+        formals.push(FormalParam { mode, local, ty })?;
     }
     Ok(())
 }
@@ -199,7 +207,7 @@ fn at_bounds(alloc: Global, class: &Class) -> Result<Option<Ty>, NoMemory> {
 }
 
 /// `$OB` for each of these parameters, at its place.
-fn tops(alloc: Global, params: &[Param]) -> Result<Items<Ty>, NoMemory> {
+fn tops(alloc: Global, params: &[TypeParam]) -> Result<Items<Ty>, NoMemory> {
     let mut tops = Items::new(alloc);
     for param in params {
         let name = Name::from_slice(alloc, b"$OB")?;
@@ -209,7 +217,7 @@ fn tops(alloc: Global, params: &[Param]) -> Result<Items<Ty>, NoMemory> {
 }
 
 /// The bound of a parameter, or this type where it has none.
-fn bound_or<'a>(param: &'a Param, top: &'a Ty) -> &'a Ty {
+fn bound_or<'a>(param: &'a TypeParam, top: &'a Ty) -> &'a Ty {
     match &param.bound {
         Some(bound) => bound,
         None => top,
@@ -220,7 +228,7 @@ fn bound_or<'a>(param: &'a Param, top: &'a Ty) -> &'a Ty {
 fn names_parameter(
     alloc: Global,
     ty: &Ty,
-    params: &[Param],
+    params: &[TypeParam],
     tops: &[Ty],
 ) -> Result<bool, NoMemory> {
     let same = Ty::Same(Pos {

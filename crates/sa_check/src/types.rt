@@ -1,11 +1,11 @@
 //! What the typed tree says of each type.
 
-use crate::above::Shapes;
-use crate::uppers::types_above_all;
+use crate::bound_supertypes::BoundTypeIndex;
+use crate::class_supertypes::universal_supertypes;
 use indexmap::IndexMap;
-use sa_check_program::Program;
-use sa_core::TypeInfo;
-use sa_tree::{Kind, NoMemory, Ty, held};
+use sa_ast::{ClassKind, NoMemory, Ty, held};
+use sa_instantiate::Instances;
+use sa_typed::TypeDef;
 use sqlite_items::Items;
 use std::alloc::Global;
 
@@ -13,10 +13,10 @@ use std::alloc::Global;
 /// that binds make.
 pub(crate) fn type_infos(
     alloc: Global,
-    program: &Program<'_>,
+    program: &Instances<'_>,
     bound: &IndexMap<Ty, ()>,
     above: Vec<Items<u32>>,
-) -> Result<Items<TypeInfo>, NoMemory> {
+) -> Result<Items<TypeDef>, NoMemory> {
     let shapes = bound_shapes(alloc, program, bound)?;
     let mut infos = Items::new(alloc);
     add_needed(alloc, program, &shapes, above, &mut infos)?;
@@ -27,10 +27,10 @@ pub(crate) fn type_infos(
 /// Puts the needed types at the end.
 fn add_needed(
     alloc: Global,
-    program: &Program<'_>,
-    shapes: &Shapes<'_>,
+    program: &Instances<'_>,
+    shapes: &BoundTypeIndex<'_>,
     above: Vec<Items<u32>>,
-    infos: &mut Items<TypeInfo>,
+    infos: &mut Items<TypeDef>,
 ) -> Result<(), NoMemory> {
     let mut number = 0u32;
     for uppers in above {
@@ -43,12 +43,12 @@ fn add_needed(
 /// Puts the bound types that binds make at the end.
 fn add_bound(
     alloc: Global,
-    program: &Program<'_>,
-    shapes: &Shapes<'_>,
+    program: &Instances<'_>,
+    shapes: &BoundTypeIndex<'_>,
     bound: &IndexMap<Ty, ()>,
-    infos: &mut Items<TypeInfo>,
+    infos: &mut Items<TypeDef>,
 ) -> Result<(), NoMemory> {
-    let uppers = types_above_all(alloc, program)?;
+    let uppers = universal_supertypes(alloc, program)?;
     let mut number = program.count();
     for place in 0..bound.len() {
         let (ty, _) = held(bound.get_index(place))?;
@@ -61,10 +61,10 @@ fn add_bound(
 /// All bound types by their shapes.
 fn bound_shapes<'a>(
     alloc: Global,
-    program: &'a Program<'_>,
+    program: &'a Instances<'_>,
     bound: &'a IndexMap<Ty, ()>,
-) -> Result<Shapes<'a>, NoMemory> {
-    let mut shapes = Shapes::new(alloc);
+) -> Result<BoundTypeIndex<'a>, NoMemory> {
+    let mut shapes = BoundTypeIndex::new(alloc);
     for number in 0..program.count() {
         shapes.add(alloc, number, held(program.ty(number))?)?;
     }
@@ -77,7 +77,7 @@ fn add_bound_shapes<'a>(
     alloc: Global,
     first: u32,
     bound: &'a IndexMap<Ty, ()>,
-    shapes: &mut Shapes<'a>,
+    shapes: &mut BoundTypeIndex<'a>,
 ) -> Result<(), NoMemory> {
     let mut number = first;
     for place in 0..bound.len() {
@@ -91,17 +91,17 @@ fn add_bound_shapes<'a>(
 /// A needed type.
 fn needed_info(
     alloc: Global,
-    program: &Program<'_>,
-    shapes: &Shapes<'_>,
+    program: &Instances<'_>,
+    shapes: &BoundTypeIndex<'_>,
     number: u32,
     uppers: Items<u32>,
-) -> Result<TypeInfo, NoMemory> {
+) -> Result<TypeDef, NoMemory> {
     let ty = held(program.ty(number))?;
     let Some(class) = program.class(number) else {
         return bound_info(alloc, program, shapes, number, ty, uppers.as_slice());
     };
     let attrs = attribute_types(alloc, program, number)?;
-    Ok(TypeInfo {
+    Ok(TypeDef {
         ty: ty.copy(alloc)?,
         kind: class.kind,
         slots: held(u32::try_from(attrs.len()).ok())?,
@@ -115,7 +115,7 @@ fn needed_info(
 /// The numbers of the attributes' types.
 fn attribute_types(
     alloc: Global,
-    program: &Program<'_>,
+    program: &Instances<'_>,
     number: u32,
 ) -> Result<Items<u32>, NoMemory> {
     let mut types = Items::new(alloc);
@@ -130,18 +130,18 @@ fn attribute_types(
 /// A bound type, which has the kind of a reference class and no attributes.
 fn bound_info(
     alloc: Global,
-    program: &Program<'_>,
-    shapes: &Shapes<'_>,
+    program: &Instances<'_>,
+    shapes: &BoundTypeIndex<'_>,
     number: u32,
     ty: &Ty,
     uppers: &[u32],
-) -> Result<TypeInfo, NoMemory> {
+) -> Result<TypeDef, NoMemory> {
     let mut above = shapes.above(alloc, program.edges(), number, ty)?;
     above.extend_from_slice(uppers)?;
     above.sort_unstable();
-    Ok(TypeInfo {
+    Ok(TypeDef {
         ty: ty.copy(alloc)?,
-        kind: Kind::Reference,
+        kind: ClassKind::Reference,
         slots: 0,
         attrs: Items::new(alloc),
         array: false,

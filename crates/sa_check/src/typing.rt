@@ -1,25 +1,25 @@
 //! The bodies of a program: of each needed type in order, feature by feature.
 
+use crate::feature_refusals::Diagnostics;
 use crate::limits::{MOST_PAIRS, Size};
-use crate::refused::Refused;
 use crate::sigs::sig_pos;
 use indexmap::IndexMap;
-use sa_check_conformance::Signatures;
-use sa_check_constants::ConstTable;
-use sa_check_expr::{Built, View};
-use sa_check_program::Program;
+use sa_ast::{ClassKind, Feature, FeatureBody, NoMemory, Rejection, Rule, held};
+use sa_check_expr::{BodyOutput, CheckTables};
 use sa_check_stmt::{body, shared_body};
-use sa_core::{FeatureCore, SharedCore, feature_nodes, shared_nodes};
-use sa_tree::{Feature, FrontFault, Kind, NoMemory, Part, Rule, held};
+use sa_conformance::Signatures;
+use sa_constants::ConstTable;
+use sa_instantiate::Instances;
+use sa_typed::{TypedFeature, TypedShared, feature_nodes, shared_nodes};
 use sqlite_items::Items;
 use std::alloc::Global;
 
 /// What typing the bodies has made so far.
 #[derive(Drop)]
 pub(crate) struct Typing {
-    pub(crate) features: Items<FeatureCore>,
-    pub(crate) shareds: Items<SharedCore>,
-    pub(crate) built: Built,
+    pub(crate) features: Items<TypedFeature>,
+    pub(crate) shareds: Items<TypedShared>,
+    pub(crate) built: BodyOutput,
     size: Size,
     /// The number of dispatch pairs.
     pairs: u32,
@@ -30,7 +30,7 @@ impl Typing {
         Typing {
             features: Items::new(alloc),
             shareds: Items::new(alloc),
-            built: Built {
+            built: BodyOutput {
                 sites: Items::new(alloc),
                 bound: IndexMap::new(alloc),
             },
@@ -47,16 +47,16 @@ impl Typing {
 /// is the last where no more are looked for.
 pub(crate) fn typed_bodies<'a>(
     alloc: Global,
-    program: &'a Program<'_>,
+    program: &'a Instances<'_>,
     signatures: &'a Signatures,
     consts: &'a ConstTable,
     above: &[Items<u32>],
-    refused: &mut Refused,
-) -> Result<Typing, FrontFault> {
+    refused: &mut Diagnostics,
+) -> Result<Typing, Rejection> {
     let below = concrete_below(alloc, program, above)?;
     let mut typing = Typing::new(alloc);
     for class in 0..program.count() {
-        let view = View {
+        let view = CheckTables {
             alloc,
             program: &*program,
             signatures: &*signatures,
@@ -71,7 +71,7 @@ pub(crate) fn typed_bodies<'a>(
 /// By needed type, the number of concrete class types below it.
 fn concrete_below(
     alloc: Global,
-    program: &Program<'_>,
+    program: &Instances<'_>,
     above: &[Items<u32>],
 ) -> Result<Vec<u32>, NoMemory> {
     let mut below = vec![in alloc; 0u32; above.len()]?;
@@ -86,10 +86,10 @@ fn concrete_below(
 }
 
 /// Whether a type is a class of values, and no bound type.
-fn is_concrete_class(program: &Program<'_>, ty: u32) -> bool {
+fn is_concrete_class(program: &Instances<'_>, ty: u32) -> bool {
     match program.class(ty) {
         None => false,
-        Some(class) => class.kind != Kind::Abstract,
+        Some(class) => class.kind != ClassKind::Abstract,
     }
 }
 
@@ -105,15 +105,15 @@ fn count_below(below: &mut [u32], uppers: &[u32]) {
 
 /// The bodies of a needed type. A bound type has none.
 fn type_instance(
-    view: &View<'_>,
+    view: &CheckTables<'_>,
     typing: &mut Typing,
     below: &[u32],
-    refused: &mut Refused,
-) -> Result<(), FrontFault> {
+    refused: &mut Diagnostics,
+) -> Result<(), Rejection> {
     let Some(class) = view.program.class(view.class) else {
         return Ok(());
     };
-    if class.kind == Kind::Abstract {
+    if class.kind == ClassKind::Abstract {
         let types = held(below.get(view.class as usize))?;
         return count_pairs(view, typing, *types);
     }
@@ -126,7 +126,7 @@ fn type_instance(
 }
 
 /// Counts the dispatch pairs of an abstract type's signatures: E56 at the name of the one with which they are too many.
-fn count_pairs(view: &View<'_>, typing: &mut Typing, below: u32) -> Result<(), FrontFault> {
+fn count_pairs(view: &CheckTables<'_>, typing: &mut Typing, below: u32) -> Result<(), Rejection> {
     let (from, to) = view.signatures.of(view.class);
     for place in from..to {
         typing.pairs = typing.pairs.saturating_add(below);
@@ -139,15 +139,15 @@ fn count_pairs(view: &View<'_>, typing: &mut Typing, below: u32) -> Result<(), F
 }
 
 /// A feature of a concrete class. Once the program is too large, what is typed isn't kept.
-fn type_feature(view: &View<'_>, typing: &mut Typing, f: &Feature) -> Result<(), FrontFault> {
+fn type_feature(view: &CheckTables<'_>, typing: &mut Typing, f: &Feature) -> Result<(), Rejection> {
     match &f.part {
-        Part::Routine(_) => type_routine(view, typing, f),
-        Part::Shared(_) => type_shared(view, typing, f),
+        FeatureBody::Routine(_) => type_routine(view, typing, f),
+        FeatureBody::Shared(_) => type_shared(view, typing, f),
         _ => Ok(()),
     }
 }
 
-fn type_routine(view: &View<'_>, typing: &mut Typing, f: &Feature) -> Result<(), FrontFault> {
+fn type_routine(view: &CheckTables<'_>, typing: &mut Typing, f: &Feature) -> Result<(), Rejection> {
     let core = body(view, &mut typing.built, f)?;
     if typing.size.add(f.name.pos, feature_nodes(&core)) {
         typing.features.push(core)?;
@@ -155,7 +155,7 @@ fn type_routine(view: &View<'_>, typing: &mut Typing, f: &Feature) -> Result<(),
     Ok(())
 }
 
-fn type_shared(view: &View<'_>, typing: &mut Typing, f: &Feature) -> Result<(), FrontFault> {
+fn type_shared(view: &CheckTables<'_>, typing: &mut Typing, f: &Feature) -> Result<(), Rejection> {
     let core = shared_body(view, &mut typing.built, f)?;
     if typing.size.add(f.name.pos, shared_nodes(&core)) {
         typing.shareds.push(core)?;

@@ -1,18 +1,18 @@
 //! A program from its classes to its typed tree.
 
-use crate::feeds::line_feeds;
-use crate::refused::{Refused, Wanted};
-use crate::sigs::sig_cores;
+use crate::class_supertypes::supertypes_by_type;
+use crate::feature_refusals::{Diagnostics, Extent};
+use crate::newlines::line_feeds;
+use crate::sigs::program_signatures;
 use crate::types::type_infos;
 use crate::typing::{Typing, typed_bodies};
-use crate::uppers::class_types_above;
-use sa_check_conformance::{Implementation, Signatures, check_conformance};
-use sa_check_constants::ConstTable;
-use sa_check_program::Program;
-use sa_core::{Core, SigCore, TypeInfo};
+use sa_ast::{Class, FlatClass, NoMemory, Rejection};
+use sa_conformance::{ConformingMember, Signatures, check_conformance};
+use sa_constants::ConstTable;
 use sa_include::flatten;
-use sa_subtypes::Edges;
-use sa_tree::{Class, Flat, FrontFault, NoMemory};
+use sa_instantiate::Instances;
+use sa_subtypes::SubtypeRelation;
+use sa_typed::{TypeDef, TypedProgram, TypedSignature};
 use sqlite_items::Items;
 use std::alloc::Global;
 
@@ -22,9 +22,13 @@ use std::alloc::Global;
 ///
 /// The first refusal: by the rules on classes and their includes, on supertypes, on `main`, on the needed types, on
 /// conformance, on constants, and on the bodies of the needed types, in this order; `NoMemory`.
-pub fn check(alloc: Global, classes: &[Class], texts: &[Items<u8>]) -> Result<Core, FrontFault> {
+pub fn check(
+    alloc: Global,
+    classes: &[Class],
+    texts: &[Items<u8>],
+) -> Result<TypedProgram, Rejection> {
     let flat = flatten(alloc, classes)?;
-    let mut refused = Refused::new(alloc, Wanted::First);
+    let mut refused = Diagnostics::new(alloc, Extent::First);
     checked(alloc, &flat, texts, &mut refused)
 }
 
@@ -32,22 +36,22 @@ pub fn check(alloc: Global, classes: &[Class], texts: &[Items<u8>]) -> Result<Co
 /// for.
 pub(crate) fn checked(
     alloc: Global,
-    flat: &Flat,
+    flat: &FlatClass,
     texts: &[Items<u8>],
-    refused: &mut Refused,
-) -> Result<Core, FrontFault> {
-    let edges = Edges::make(alloc, flat)?;
-    let program = Program::needed(alloc, flat, &edges)?;
+    refused: &mut Diagnostics,
+) -> Result<TypedProgram, Rejection> {
+    let edges = SubtypeRelation::make(alloc, flat)?;
+    let program = Instances::instantiate(alloc, flat, &edges)?;
     checked_program(alloc, &program, texts, refused)
 }
 
 /// The typed tree of a program whose needed types stand.
 fn checked_program(
     alloc: Global,
-    program: &Program<'_>,
+    program: &Instances<'_>,
     texts: &[Items<u8>],
-    refused: &mut Refused,
-) -> Result<Core, FrontFault> {
+    refused: &mut Diagnostics,
+) -> Result<TypedProgram, Rejection> {
     let signatures = Signatures::make(alloc, program)?;
     let implementations = check_conformance(alloc, program, &signatures)?;
     let consts = ConstTable::make(alloc, program)?;
@@ -65,14 +69,14 @@ fn checked_program(
 /// The typed tree of a program whose types, signatures and constants stand.
 fn typed_program<'a>(
     alloc: Global,
-    program: &'a Program<'_>,
+    program: &'a Instances<'_>,
     signatures: &'a Signatures,
     consts: &'a ConstTable,
-    implementations: &[Items<Implementation>],
+    implementations: &[Items<ConformingMember>],
     texts: &[Items<u8>],
-    refused: &mut Refused,
-) -> Result<Core, FrontFault> {
-    let above = class_types_above(alloc, program)?;
+    refused: &mut Diagnostics,
+) -> Result<TypedProgram, Rejection> {
+    let above = supertypes_by_type(alloc, program)?;
     let typing = typed_bodies(
         alloc,
         program,
@@ -82,26 +86,26 @@ fn typed_program<'a>(
         refused,
     )?;
     let types = type_infos(alloc, program, &typing.built.bound, above)?;
-    let sigs = sig_cores(alloc, program, signatures, implementations)?;
+    let sigs = program_signatures(alloc, program, signatures, implementations)?;
     Ok(whole(alloc, program, types, sigs, typing, texts)?)
 }
 
 /// The parts of a typed program put together.
 fn whole(
     alloc: Global,
-    program: &Program<'_>,
-    types: Items<TypeInfo>,
-    sigs: Items<SigCore>,
+    program: &Instances<'_>,
+    types: Items<TypeDef>,
+    sigs: Items<TypedSignature>,
     typing: Typing,
     texts: &[Items<u8>],
-) -> Result<Core, NoMemory> {
-    let feeds = line_feeds(alloc, texts)?;
-    Ok(Core {
+) -> Result<TypedProgram, NoMemory> {
+    let newlines = line_feeds(alloc, texts)?;
+    Ok(TypedProgram {
         types,
         features: typing.features,
         sigs,
         shareds: typing.shareds,
         main: program.main(),
-        feeds,
+        newlines,
     })
 }

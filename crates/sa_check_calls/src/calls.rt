@@ -1,17 +1,17 @@
 //! Calls: what is called is chosen by the types of the arguments, and the arguments go to the types of its parameters.
 
-use crate::constant::constant;
+use crate::const_call::const_call;
 use crate::iter::{innermost_loop, is_iter_name, iter_call};
 use crate::leaving::LeavingCall;
-use crate::passing::{PassedArgs, passed, seen_arguments};
+use crate::passing::{PassedArgs, actual_args, pass_args};
 use crate::receiver::Receiver;
 use crate::synthesised::{Synthesised, SynthesisedArg, only_argument};
+use sa_ast::{ExprReceiver, Name, NoMemory, Pos, Rejection, Rule};
 use sa_check_choice::{
-    Built, ChosenFeature, Context, Expected, Reached, Typed, View, bound_callee, bound_name,
-    chosen, first_iter,
+    BodyOutput, CheckContext, CheckTables, CheckedExpr, ChosenFeature, Expected, Resolved,
+    bound_callee, bound_name, first_iter, resolve_call,
 };
-use sa_core::{CalledCore, ExprCore};
-use sa_tree::{FrontFault, Name, NoMemory, Pos, Recv, Rule};
+use sa_typed::{TypedCallee, TypedExpr};
 use sqlite_items::Boxed;
 use std::alloc::Global;
 
@@ -45,7 +45,7 @@ impl<'n> Call<'n> {
 /// What is written of a call by name: what it is made on, the name, and its position.
 #[derive(Clone, Copy)]
 pub struct CallHead<'e> {
-    pub on: &'e Recv,
+    pub on: &'e ExprReceiver,
     pub name: &'e Name,
     pub pos: Pos,
 }
@@ -53,13 +53,13 @@ pub struct CallHead<'e> {
 /// A call by name that is no variable, with what stands inside it typed. `while!`, `until!` and `break!` give no result, so
 /// that as expressions they are refused: E35, E38, E31.
 pub fn call_form(
-    context: Context<'_>,
-    built: &mut Built,
+    context: CheckContext<'_>,
+    built: &mut BodyOutput,
     head: CallHead<'_>,
     on: Receiver,
     args: Vec<SynthesisedArg>,
     expected: Expected,
-) -> Result<Typed, FrontFault> {
+) -> Result<CheckedExpr, Rejection> {
     let pos = head.pos;
     if LeavingCall::of_call(head.on, head.name).is_some() {
         innermost_loop(context.place, pos)?;
@@ -79,17 +79,17 @@ pub fn call_form(
 ///
 /// - E35, E38: an iter call stands outside a loop, or a protect stands between it and its loop.
 /// - E41: what it is made on is contextual. E12: it is made on a class that isn't concrete.
-/// - As `chosen` refuses, or on a bound value E30 and E31.
+/// - As `resolve_call` refuses, or on a bound value E30 and E31.
 /// - E31: a contextual argument has another type than its parameter.
 /// - E36, at the first iter call in the self or an argument of a `once` parameter of an iter call.
 ///
 /// A contextual argument is refused by its own rules where it doesn't go to the type of its parameter.
 pub fn typed_call(
-    context: Context<'_>,
-    built: &mut Built,
+    context: CheckContext<'_>,
+    built: &mut BodyOutput,
     form: Call<'_>,
     expected: Expected,
-) -> Result<Typed, FrontFault> {
+) -> Result<CheckedExpr, Rejection> {
     if is_iter_name(form.name) {
         return iter_call(context, built, form, expected);
     }
@@ -98,14 +98,14 @@ pub fn typed_call(
 
 /// A call that is no iter call.
 fn plain_call(
-    view: &View<'_>,
-    built: &mut Built,
+    view: &CheckTables<'_>,
+    built: &mut BodyOutput,
     form: Call<'_>,
     expected: Expected,
-) -> Result<Typed, FrontFault> {
+) -> Result<CheckedExpr, Rejection> {
     let callee = callee(view, built, &form, expected)?;
     let ChosenFeature {
-        reached,
+        resolved: reached,
         params,
         result: ty,
     } = callee;
@@ -116,9 +116,9 @@ fn plain_call(
         pos,
     } = form;
     match reached {
-        Reached::Value(value) => Ok(constant(built, on, value, ty)),
-        Reached::Called(called) => {
-            let passed = passed(view, built, args, params.as_slice(), pos)?;
+        Resolved::Value(value) => Ok(const_call(built, on, value, ty)),
+        Resolved::Called(called) => {
+            let passed = pass_args(view, built, args, params.as_slice(), pos)?;
             Ok(called_value(view.alloc, called, on, passed, ty, pos)?)
         }
     }
@@ -127,21 +127,21 @@ fn plain_call(
 /// The call of what is reached, whose result has the type `ty`.
 pub(crate) fn called_value(
     alloc: Global,
-    called: CalledCore,
+    called: TypedCallee,
     on: Receiver,
     passed: PassedArgs,
     ty: Option<u32>,
     pos: Pos,
-) -> Result<Typed, NoMemory> {
+) -> Result<CheckedExpr, NoMemory> {
     let PassedArgs {
         args,
         iter,
         once: _once,
     } = passed;
     let iter = first_iter(on.iter(), iter);
-    let on = Boxed::new(alloc, on.into_core()?)?;
-    Ok(Typed {
-        core: ExprCore::Call(called, on, args, pos),
+    let on = Boxed::new(alloc, on.into_expr()?)?;
+    Ok(CheckedExpr {
+        core: TypedExpr::Call(called, on, args, pos),
         ty,
         iter,
     })
@@ -150,16 +150,16 @@ pub(crate) fn called_value(
 /// What a call reaches, by the types of what it is made on and of its arguments. On a bound value E30 of another name than
 /// that of its kind.
 pub(crate) fn callee(
-    view: &View<'_>,
-    built: &Built,
+    view: &CheckTables<'_>,
+    built: &BodyOutput,
     form: &Call<'_>,
     expected: Expected,
-) -> Result<ChosenFeature, FrontFault> {
+) -> Result<ChosenFeature, Rejection> {
     let pos = form.pos;
     let of = form.on.ty(view, pos)?;
-    let seen = seen_arguments(view, built, form.args.as_slice())?;
+    let seen = actual_args(view, built, form.args.as_slice())?;
     let Some(word) = value_name(view, built, &form.on, of) else {
-        return chosen(view, of, form.name, seen.as_slice(), expected, pos);
+        return resolve_call(view, of, form.name, seen.as_slice(), expected, pos);
     };
     if form.name != word {
         return Err(Rule::UnknownName.at(pos).into());
@@ -168,7 +168,12 @@ pub(crate) fn callee(
 }
 
 /// The name by which a bound value is called, where a call is made on one.
-fn value_name(view: &View<'_>, built: &Built, on: &Receiver, of: u32) -> Option<&'static [u8]> {
+fn value_name(
+    view: &CheckTables<'_>,
+    built: &BodyOutput,
+    on: &Receiver,
+    of: u32,
+) -> Option<&'static [u8]> {
     match on {
         Receiver::Value(_, _) => bound_name(view, built, of),
         Receiver::Own | Receiver::Class(_) | Receiver::Untyped => None,

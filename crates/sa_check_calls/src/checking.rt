@@ -1,15 +1,15 @@
 //! Contextual forms checked against the type that their place expects.
 
 use crate::calls::called_value;
-use crate::passing::{PassedArgs, passed, seen_arguments};
+use crate::passing::{PassedArgs, actual_args, pass_args};
 use crate::receiver::Receiver;
 use crate::synthesised::{Synthesised, SynthesisedArg};
+use sa_ast::{NoMemory, Pos, Rejection, Rule, Ty, held};
 use sa_check_choice::{
-    Built, ChosenFeature, Expected, Reached, Typed, View, chosen, first_iter, is_concrete, is_sub,
-    number_of, type_of, widened,
+    BodyOutput, CheckTables, CheckedExpr, ChosenFeature, Expected, Resolved, boxed, first_iter,
+    is_concrete, is_sub, number_of, resolve_call, type_of,
 };
-use sa_core::ExprCore;
-use sa_tree::{FrontFault, NoMemory, Pos, Rule, Ty, held};
+use sa_typed::TypedExpr;
 use sqlite_items::Items;
 use std::alloc::Global;
 
@@ -18,12 +18,12 @@ const ARRAY: &[u8] = b"ARRAY";
 
 /// An expression checked against the type that its place expects. One that has a type by itself keeps it.
 #[cycle(check)]
-pub fn checked(
-    view: &View<'_>,
-    built: &Built,
+pub fn check_value(
+    view: &CheckTables<'_>,
+    built: &BodyOutput,
     synthesised: Synthesised,
     expected: Expected,
-) -> Result<Typed, FrontFault> {
+) -> Result<CheckedExpr, Rejection> {
     match synthesised {
         Synthesised::Typed(value, _) => Ok(value),
         Synthesised::Void(pos) => void(expected, pos),
@@ -33,12 +33,12 @@ pub fn checked(
 }
 
 /// `void`: E41 where no type is expected.
-fn void(expected: Expected, pos: Pos) -> Result<Typed, FrontFault> {
+fn void(expected: Expected, pos: Pos) -> Result<CheckedExpr, Rejection> {
     let Some(ty) = expected.ty() else {
         return Err(Rule::NoTypeFromContext.at(pos).into());
     };
-    Ok(Typed {
-        core: ExprCore::VoidOf(ty),
+    Ok(CheckedExpr {
+        core: TypedExpr::VoidValue(ty),
         ty: Some(ty),
         iter: None,
     })
@@ -47,20 +47,20 @@ fn void(expected: Expected, pos: Pos) -> Result<Typed, FrontFault> {
 /// `#(..)` without a type: a call of `create` on void of the expected type, and E41 unless that is a concrete one.
 #[cycle(check)]
 fn create(
-    view: &View<'_>,
-    built: &Built,
+    view: &CheckTables<'_>,
+    built: &BodyOutput,
     args: Vec<SynthesisedArg>,
     expected: Expected,
     pos: Pos,
-) -> Result<Typed, FrontFault> {
+) -> Result<CheckedExpr, Rejection> {
     let on = created(view, expected);
     let chosen = created_by(view, built, &on, args.as_slice(), pos)?;
-    let passed = passed(view, built, args, chosen.params.as_slice(), pos)?;
+    let passed = pass_args(view, built, args, chosen.params.as_slice(), pos)?;
     Ok(made(view.alloc, chosen, on, passed, pos)?)
 }
 
 /// What `#(..)` without a type calls `create` on: nothing that has a type, unless a concrete one is expected.
-fn created(view: &View<'_>, expected: Expected) -> Receiver {
+fn created(view: &CheckTables<'_>, expected: Expected) -> Receiver {
     match expected {
         Expected::Type(class) if is_concrete(view, class) => Receiver::Class(class),
         _ => Receiver::Untyped,
@@ -69,15 +69,15 @@ fn created(view: &View<'_>, expected: Expected) -> Receiver {
 
 /// The `create` that is chosen.
 fn created_by(
-    view: &View<'_>,
-    built: &Built,
+    view: &CheckTables<'_>,
+    built: &BodyOutput,
     on: &Receiver,
     args: &[SynthesisedArg],
     pos: Pos,
-) -> Result<ChosenFeature, FrontFault> {
+) -> Result<ChosenFeature, Rejection> {
     let of = on.ty(view, pos)?;
-    let seen = seen_arguments(view, built, args)?;
-    chosen(view, of, b"create", seen.as_slice(), Expected::Value, pos)
+    let seen = actual_args(view, built, args)?;
+    resolve_call(view, of, b"create", seen.as_slice(), Expected::Value, pos)
 }
 
 /// The call of `create`, or its value where it is a const.
@@ -87,15 +87,15 @@ fn made(
     on: Receiver,
     passed: PassedArgs,
     pos: Pos,
-) -> Result<Typed, NoMemory> {
+) -> Result<CheckedExpr, NoMemory> {
     let ChosenFeature {
-        reached,
+        resolved: reached,
         params: _params,
         result: ty,
     } = chosen;
     match reached {
-        Reached::Called(called) => called_value(alloc, called, on, passed, ty, pos),
-        Reached::Value(core) => Ok(Typed {
+        Resolved::Called(called) => called_value(alloc, called, on, passed, ty, pos),
+        Resolved::Value(core) => Ok(CheckedExpr {
             core,
             ty,
             iter: None,
@@ -106,7 +106,7 @@ fn made(
 /// A value where a type is expected, with the number of the type that it has by itself.
 #[derive(Drop)]
 pub(crate) struct CheckedValue {
-    pub core: ExprCore,
+    pub core: TypedExpr,
     pub from: u32,
     pub iter: Option<Pos>,
 }
@@ -114,27 +114,27 @@ pub(crate) struct CheckedValue {
 /// An expression as a value of the type that its place expects, to which it is widened.
 #[cycle(check)]
 pub(crate) fn checked_to(
-    view: &View<'_>,
-    built: &Built,
+    view: &CheckTables<'_>,
+    built: &BodyOutput,
     synthesised: Synthesised,
     to: u32,
-) -> Result<CheckedValue, FrontFault> {
+) -> Result<CheckedValue, Rejection> {
     let pos = synthesised.pos();
-    let Typed { core, ty, iter } = checked(view, built, synthesised, Expected::Type(to))?;
+    let CheckedExpr { core, ty, iter } = check_value(view, built, synthesised, Expected::Type(to))?;
     let from = held(ty)?;
-    let core = widened(view, core, from, to, pos)?;
+    let core = boxed(view, core, from, to, pos)?;
     Ok(CheckedValue { core, from, iter })
 }
 
 /// An array literal: E41 unless an array is expected, and E33 unless each element goes to the type of its elements.
 #[cycle(check)]
 fn array(
-    view: &View<'_>,
-    built: &Built,
+    view: &CheckTables<'_>,
+    built: &BodyOutput,
     items: Vec<Synthesised>,
     expected: Expected,
     pos: Pos,
-) -> Result<Typed, FrontFault> {
+) -> Result<CheckedExpr, Rejection> {
     let Some((ty, of)) = array_type(view, built, expected) else {
         return Err(Rule::NoTypeFromContext.at(pos).into());
     };
@@ -142,8 +142,8 @@ fn array(
     if !elements.go {
         return Err(Rule::WrongType.at(pos).into());
     }
-    Ok(Typed {
-        core: ExprCore::Items(ty, elements.cores, pos),
+    Ok(CheckedExpr {
+        core: TypedExpr::Array(ty, elements.cores, pos),
         ty: Some(ty),
         iter: elements.iter,
     })
@@ -152,7 +152,7 @@ fn array(
 /// The elements of an array literal.
 #[derive(Drop)]
 struct ArrayElements {
-    cores: Items<ExprCore>,
+    cores: Items<TypedExpr>,
     /// The first iter call in them.
     iter: Option<Pos>,
     /// Whether each goes to the type of the array's elements.
@@ -162,11 +162,11 @@ struct ArrayElements {
 /// The elements of an array literal whose elements have the type with the number `of`.
 #[cycle(check)]
 fn elements(
-    view: &View<'_>,
-    built: &Built,
+    view: &CheckTables<'_>,
+    built: &BodyOutput,
     items: Vec<Synthesised>,
     of: u32,
-) -> Result<ArrayElements, FrontFault> {
+) -> Result<ArrayElements, Rejection> {
     let mut all = ArrayElements {
         cores: Items::new(view.alloc),
         iter: None,
@@ -194,7 +194,11 @@ impl ArrayElements {
 }
 
 /// The number of an expected array type and that of its elements' type.
-fn array_type(view: &View<'_>, built: &Built, expected: Expected) -> Option<(u32, u32)> {
+fn array_type(
+    view: &CheckTables<'_>,
+    built: &BodyOutput,
+    expected: Expected,
+) -> Option<(u32, u32)> {
     let ty = expected.ty()?;
     let Ty::Named(name, given, _) = type_of(view, built, ty)? else {
         return None;

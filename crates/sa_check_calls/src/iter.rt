@@ -1,11 +1,14 @@
 //! Iter calls and their sites.
 
 use crate::calls::{Call, callee};
-use crate::passing::{PassedArgs, passed};
+use crate::passing::{PassedArgs, pass_args};
 use crate::receiver::Receiver;
-use sa_check_choice::{Built, ChosenFeature, Context, Expected, Place, Typed, View, first_iter};
-use sa_core::{ExprCore, SiteCore};
-use sa_tree::{FrontFault, NoMemory, Pos, Rule, held};
+use sa_ast::{NoMemory, Pos, Rejection, Rule, held};
+use sa_check_choice::{
+    BodyOutput, CheckContext, CheckScope, CheckTables, CheckedExpr, ChosenFeature, Expected,
+    first_iter,
+};
+use sa_typed::{Site, TypedExpr};
 use sqlite_items::Boxed;
 use std::alloc::Global;
 
@@ -16,7 +19,7 @@ pub fn is_iter_name(name: &[u8]) -> bool {
 
 /// The number of the loop that an iter call belongs to: E35 outside a loop, and E38 where a protect stands between the call
 /// and its loop.
-pub(crate) fn innermost_loop(place: &Place, pos: Pos) -> Result<u32, FrontFault> {
+pub(crate) fn innermost_loop(place: &CheckScope, pos: Pos) -> Result<u32, Rejection> {
     let Some(owner) = place.owner else {
         return Err(Rule::IterOutsideLoop.at(pos).into());
     };
@@ -28,11 +31,11 @@ pub(crate) fn innermost_loop(place: &Place, pos: Pos) -> Result<u32, FrontFault>
 
 /// An iter call, which is no head of a bind. It is refused as `call` says.
 pub(crate) fn iter_call(
-    context: Context<'_>,
-    built: &mut Built,
+    context: CheckContext<'_>,
+    built: &mut BodyOutput,
     form: Call<'_>,
     expected: Expected,
-) -> Result<Typed, FrontFault> {
+) -> Result<CheckedExpr, Rejection> {
     let owner = innermost_loop(context.place, form.pos)?;
     let callee = callee(context.view, built, &form, expected)?;
     in_loop(context.view, built, form, callee, owner)
@@ -40,33 +43,33 @@ pub(crate) fn iter_call(
 
 /// The iter call of what is chosen, in the loop with the number `owner`.
 fn in_loop(
-    view: &View<'_>,
-    built: &mut Built,
+    view: &CheckTables<'_>,
+    built: &mut BodyOutput,
     form: Call<'_>,
     callee: ChosenFeature,
     owner: u32,
-) -> Result<Typed, FrontFault> {
-    let called = held(callee.reached.called())?;
+) -> Result<CheckedExpr, Rejection> {
+    let called = held(callee.resolved.called())?;
     let Call {
         on,
         name: _name,
         args,
         pos,
     } = form;
-    let passed = passed(view, built, args, callee.params.as_slice(), pos)?;
-    let site = SiteCore { owner, called, pos };
+    let passed = pass_args(view, built, args, callee.params.as_slice(), pos)?;
+    let site = Site { owner, called, pos };
     at_site(view.alloc, built, site, on, passed, callee.result)
 }
 
 /// The iter call at a new site, whose result has the type `ty`.
 fn at_site(
     alloc: Global,
-    built: &mut Built,
-    site: SiteCore,
+    built: &mut BodyOutput,
+    site: Site,
     on: Receiver,
     passed: PassedArgs,
     ty: Option<u32>,
-) -> Result<Typed, FrontFault> {
+) -> Result<CheckedExpr, Rejection> {
     if let Some(inner) = first_iter(on.iter(), passed.once) {
         return Err(Rule::IterInSelfOrOnce.at(inner).into());
     }
@@ -83,22 +86,22 @@ fn iter_value(
     passed: PassedArgs,
     ty: Option<u32>,
     pos: Pos,
-) -> Result<Typed, NoMemory> {
+) -> Result<CheckedExpr, NoMemory> {
     let PassedArgs {
         args,
         iter: _iter,
         once: _once,
     } = passed;
-    let on = Boxed::new(alloc, on.into_core()?)?;
-    Ok(Typed {
-        core: ExprCore::IterCall(site, on, args, pos),
+    let on = Boxed::new(alloc, on.into_expr()?)?;
+    Ok(CheckedExpr {
+        core: TypedExpr::IterCall(site, on, args, pos),
         ty,
         iter: Some(pos),
     })
 }
 
 /// The number of a new site.
-fn new_site(built: &mut Built, site: SiteCore) -> Result<u32, NoMemory> {
+fn new_site(built: &mut BodyOutput, site: Site) -> Result<u32, NoMemory> {
     let number = held(u32::try_from(built.sites.len()).ok())?;
     built.sites.push(site)?;
     Ok(number)

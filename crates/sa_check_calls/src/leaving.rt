@@ -1,12 +1,12 @@
 //! `while!`, `until!` and `break!`, which leave the innermost loop and are built in.
 
-use crate::checking::checked;
+use crate::checking::check_value;
 use crate::iter::innermost_loop;
 use crate::synthesised::SynthesisedArg;
-use sa_check_choice::{Built, Context, Expected, View};
-use sa_check_program::BOOL;
-use sa_core::{ExprCore, LoopExit, StmtCore};
-use sa_tree::{FrontFault, Name, Pos, Recv, Rule};
+use sa_ast::{ExprReceiver, Name, Pos, Rejection, Rule};
+use sa_check_choice::{BodyOutput, CheckContext, CheckTables, Expected};
+use sa_instantiate::BOOL;
+use sa_typed::{LoopExit, TypedExpr, TypedStmt};
 
 /// A call that leaves the innermost loop.
 #[derive(Clone, Copy, Debug, PartialEq, Eq)]
@@ -28,10 +28,10 @@ impl LeavingCall {
     }
 
     /// The one that a call is, by what it is made on and its name.
-    pub fn of_call(on: &Recv, name: &Name) -> Option<LeavingCall> {
+    pub fn of_call(on: &ExprReceiver, name: &Name) -> Option<LeavingCall> {
         match on {
-            Recv::Implied => LeavingCall::of_name(name),
-            Recv::Of(_) | Recv::OfClass(_) => None,
+            ExprReceiver::Implied => LeavingCall::of_name(name),
+            ExprReceiver::Of(_) | ExprReceiver::OfClass(_) => None,
         }
     }
 }
@@ -43,23 +43,23 @@ impl LeavingCall {
 /// - E31: `break!` has an argument, or another one hasn't exactly one.
 /// - E33: its argument isn't a BOOL.
 pub fn leave_form(
-    context: Context<'_>,
-    built: &Built,
+    context: CheckContext<'_>,
+    built: &BodyOutput,
     call: LeavingCall,
     args: Vec<SynthesisedArg>,
     pos: Pos,
-) -> Result<StmtCore, FrontFault> {
+) -> Result<TypedStmt, Rejection> {
     innermost_loop(context.place, pos)?;
     let exit = match call {
         LeavingCall::Break => break_form(args, pos)?,
         LeavingCall::While => LoopExit::While(test(context.view, built, args, pos)?),
         LeavingCall::Until => LoopExit::Until(test(context.view, built, args, pos)?),
     };
-    Ok(StmtCore::Leave(exit))
+    Ok(TypedStmt::ExitLoop(exit))
 }
 
 /// `break!`: E31 where it has an argument.
-fn break_form(args: Vec<SynthesisedArg>, pos: Pos) -> Result<LoopExit, FrontFault> {
+fn break_form(args: Vec<SynthesisedArg>, pos: Pos) -> Result<LoopExit, Rejection> {
     if args.is_empty() {
         Ok(LoopExit::Break)
     } else {
@@ -70,20 +70,20 @@ fn break_form(args: Vec<SynthesisedArg>, pos: Pos) -> Result<LoopExit, FrontFaul
 /// The test of `while!` and `until!`: E31 unless it is the only argument, or where it is one that the call writes; E33 unless
 /// it is a BOOL.
 fn test(
-    view: &View<'_>,
-    built: &Built,
+    view: &CheckTables<'_>,
+    built: &BodyOutput,
     args: Vec<SynthesisedArg>,
     pos: Pos,
-) -> Result<ExprCore, FrontFault> {
+) -> Result<TypedExpr, Rejection> {
     let SynthesisedArg::Value(value) = only(args, pos)? else {
         return Err(Rule::NoFeatureFits.at(pos).into());
     };
-    let value = checked(view, built, value, Expected::Type(BOOL))?;
+    let value = check_value(view, built, value, Expected::Type(BOOL))?;
     value.into_bool(pos)
 }
 
 /// The only argument: E31 where there is none, or more than one.
-fn only(args: Vec<SynthesisedArg>, pos: Pos) -> Result<SynthesisedArg, FrontFault> {
+fn only(args: Vec<SynthesisedArg>, pos: Pos) -> Result<SynthesisedArg, Rejection> {
     let mut args = args;
     let last = args.pop();
     match last {

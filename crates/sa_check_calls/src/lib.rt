@@ -3,7 +3,7 @@
 
 mod calls;
 mod checking;
-mod constant;
+mod const_call;
 mod iter;
 mod leaving;
 mod passing;
@@ -11,9 +11,9 @@ mod receiver;
 mod synthesised;
 
 pub use calls::{Call, CallHead, call_form, typed_call};
-pub use checking::checked;
+pub use checking::check_value;
 pub use iter::is_iter_name;
 pub use leaving::{LeavingCall, leave_form};
-pub use passing::{PassedArgs, passed, seen_arguments};
+pub use passing::{PassedArgs, actual_args, pass_args};
 pub use receiver::Receiver;
 pub use synthesised::{Synthesised, SynthesisedArg, only_argument};

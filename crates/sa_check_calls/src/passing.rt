@@ -2,18 +2,18 @@
 
 use crate::checking::checked_to;
 use crate::synthesised::{Synthesised, SynthesisedArg};
-use sa_check_choice::{Built, Param, View, first_iter, type_of};
-use sa_core::ArgCore;
-use sa_signatures::ArgIn;
-use sa_tree::{FrontFault, Mode, NoMemory, Pos, Rule, Ty, held};
+use sa_ast::{Mode, NoMemory, Pos, Rejection, Rule, Ty, held};
+use sa_check_choice::{BodyOutput, CheckTables, ChosenParam, first_iter, type_of};
+use sa_overload::ActualArg;
+use sa_typed::TypedArg;
 use sqlite_items::Items;
 
 /// What the choice sees of the arguments of a call. A contextual one has no type yet.
-pub fn seen_arguments(
-    view: &View<'_>,
-    built: &Built,
+pub fn actual_args(
+    view: &CheckTables<'_>,
+    built: &BodyOutput,
     args: &[SynthesisedArg],
-) -> Result<Items<ArgIn>, NoMemory> {
+) -> Result<Items<ActualArg>, NoMemory> {
     let mut seen = Items::new(view.alloc);
     for arg in args {
         seen.push(seen_argument(view, built, arg)?)?;
@@ -21,12 +21,16 @@ pub fn seen_arguments(
     Ok(seen)
 }
 
-fn seen_argument(view: &View<'_>, built: &Built, arg: &SynthesisedArg) -> Result<ArgIn, NoMemory> {
+fn seen_argument(
+    view: &CheckTables<'_>,
+    built: &BodyOutput,
+    arg: &SynthesisedArg,
+) -> Result<ActualArg, NoMemory> {
     let ty = seen_type(view, built, own_type(arg)?)?;
-    Ok(ArgIn {
+    Ok(ActualArg {
         mode: arg.mode(),
         ty,
-        left: arg.is_left(),
+        left: arg.is_open(),
     })
 }
 
@@ -36,12 +40,16 @@ fn own_type(arg: &SynthesisedArg) -> Result<Option<u32>, NoMemory> {
         SynthesisedArg::Value(Synthesised::Typed(value, _)) => Ok(Some(held(value.ty)?)),
         SynthesisedArg::Value(_) => Ok(None),
         SynthesisedArg::Variable(_, variable) => Ok(Some(variable.ty)),
-        SynthesisedArg::Left(ty) => Ok(*ty),
+        SynthesisedArg::Open(ty) => Ok(*ty),
     }
 }
 
 /// The type with a number, if there is one.
-fn seen_type(view: &View<'_>, built: &Built, number: Option<u32>) -> Result<Option<Ty>, NoMemory> {
+fn seen_type(
+    view: &CheckTables<'_>,
+    built: &BodyOutput,
+    number: Option<u32>,
+) -> Result<Option<Ty>, NoMemory> {
     match number {
         None => Ok(None),
         Some(number) => Ok(Some(held(type_of(view, built, number))?.copy(view.alloc)?)),
@@ -51,7 +59,7 @@ fn seen_type(view: &View<'_>, built: &Built, number: Option<u32>) -> Result<Opti
 /// The arguments of a call at their parameters.
 #[derive(Drop)]
 pub struct PassedArgs {
-    pub args: Items<ArgCore>,
+    pub args: Items<TypedArg>,
     /// The first iter call in them.
     pub iter: Option<Pos>,
     /// The first one in those of `once` parameters.
@@ -61,7 +69,7 @@ pub struct PassedArgs {
 /// An argument at its parameter.
 #[derive(Drop)]
 struct PassedArg {
-    arg: ArgCore,
+    arg: TypedArg,
     iter: Option<Pos>,
     /// Whether a contextual one has the type of its parameter.
     fits: bool,
@@ -86,13 +94,13 @@ impl PassedArgs {
 /// The arguments of a call at the parameters of what it chose, contextual ones from left to right. A contextual one that
 /// has another type than its parameter doesn't fit any more: E31 at the call.
 #[cycle(check)]
-pub fn passed(
-    view: &View<'_>,
-    built: &Built,
+pub fn pass_args(
+    view: &CheckTables<'_>,
+    built: &BodyOutput,
     args: Vec<SynthesisedArg>,
-    params: &[Param],
+    params: &[ChosenParam],
     pos: Pos,
-) -> Result<PassedArgs, FrontFault> {
+) -> Result<PassedArgs, Rejection> {
     let mut all = PassedArgs {
         args: Items::new(view.alloc),
         iter: None,
@@ -113,20 +121,20 @@ pub fn passed(
 
 #[cycle(check)]
 fn passed_argument(
-    view: &View<'_>,
-    built: &Built,
+    view: &CheckTables<'_>,
+    built: &BodyOutput,
     arg: SynthesisedArg,
-    param: Param,
-) -> Result<PassedArg, FrontFault> {
+    param: ChosenParam,
+) -> Result<PassedArg, Rejection> {
     match arg {
         SynthesisedArg::Value(value) => passed_value(view, built, value, param),
         SynthesisedArg::Variable(_, variable) => Ok(PassedArg {
-            arg: ArgCore::Variable(param.mode, variable.number),
+            arg: TypedArg::Variable(param.mode, variable.number),
             iter: None,
             fits: true,
         }),
-        SynthesisedArg::Left(_) => Ok(PassedArg {
-            arg: ArgCore::Left,
+        SynthesisedArg::Open(_) => Ok(PassedArg {
+            arg: TypedArg::Open,
             iter: None,
             fits: true,
         }),
@@ -135,15 +143,15 @@ fn passed_argument(
 
 #[cycle(check)]
 fn passed_value(
-    view: &View<'_>,
-    built: &Built,
+    view: &CheckTables<'_>,
+    built: &BodyOutput,
     value: Synthesised,
-    param: Param,
-) -> Result<PassedArg, FrontFault> {
+    param: ChosenParam,
+) -> Result<PassedArg, Rejection> {
     let is_typed = value.is_typed();
     let value = checked_to(view, built, value, param.ty)?;
     Ok(PassedArg {
-        arg: ArgCore::Value(param.mode, value.core),
+        arg: TypedArg::Value(param.mode, value.core),
         iter: value.iter,
         fits: is_typed || value.from == param.ty,
     })

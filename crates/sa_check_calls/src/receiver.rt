@@ -1,9 +1,9 @@
 //! What a call is made on.
 
 use crate::synthesised::Synthesised;
-use sa_check_choice::{Typed, View, is_concrete};
-use sa_core::ExprCore;
-use sa_tree::{FrontFault, NoMemory, Pos, Rule, held};
+use sa_ast::{NoMemory, Pos, Rejection, Rule, held};
+use sa_check_choice::{CheckTables, CheckedExpr, is_concrete};
+use sa_typed::TypedExpr;
 
 /// What a call is made on, its children typed.
 #[derive(Drop)]
@@ -11,7 +11,7 @@ pub enum Receiver {
     /// The feature's own self.
     Own,
     /// A value, with the number of sites before it was typed.
-    Value(Typed, usize),
+    Value(CheckedExpr, usize),
     /// The type with this number, with void as self.
     Class(u32),
     /// A contextual form, which has no type here.
@@ -28,7 +28,7 @@ impl Receiver {
     }
 
     /// The number of the type that the call is made on: E41 of a contextual form, E12 of a class that isn't concrete.
-    pub fn ty(&self, view: &View<'_>, pos: Pos) -> Result<u32, FrontFault> {
+    pub fn ty(&self, view: &CheckTables<'_>, pos: Pos) -> Result<u32, Rejection> {
         match self {
             Receiver::Own => Ok(view.class),
             Receiver::Value(value, _) => Ok(held(value.ty)?),
@@ -47,11 +47,11 @@ impl Receiver {
     }
 
     /// The self that the call gets.
-    pub fn into_core(self) -> Result<ExprCore, NoMemory> {
+    pub fn into_expr(self) -> Result<TypedExpr, NoMemory> {
         match self {
-            Receiver::Own => Ok(ExprCore::Me),
+            Receiver::Own => Ok(TypedExpr::SelfRef),
             Receiver::Value(value, _) => Ok(value.core),
-            Receiver::Class(class) => Ok(ExprCore::VoidOf(class)),
+            Receiver::Class(class) => Ok(TypedExpr::VoidValue(class)),
             Receiver::Untyped => Err(NoMemory),
         }
     }

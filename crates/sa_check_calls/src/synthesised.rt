@@ -4,9 +4,9 @@
 //! be known only once the form around them is chosen. What they hold is typed at its place all the same, and the contextual
 //! form alone waits for its type.
 
-use sa_check_choice::{Typed, Variable};
-use sa_core::ExprCore;
-use sa_tree::{Mode, NoMemory, Pos};
+use sa_ast::{Mode, NoMemory, Pos};
+use sa_check_choice::{CheckedExpr, Variable};
+use sa_typed::TypedExpr;
 use std::alloc::Global;
 
 /// An expression whose children are typed: with the type that it has by itself, or else to be checked against the type that
@@ -15,7 +15,7 @@ use std::alloc::Global;
 #[derive(Drop)]
 pub enum Synthesised {
     /// An expression that has a type by itself, with its position.
-    Typed(Typed, Pos),
+    Typed(CheckedExpr, Pos),
     /// `void`
     Void(Pos),
     /// `#(..)` without a type
@@ -32,21 +32,21 @@ pub enum SynthesisedArg {
     /// A variable that the call writes: the mode is `out` or `inout`.
     Variable(Mode, Variable),
     /// An argument that a bind leaves open, with the number of its type where one is written.
-    Left(Option<u32>),
+    Open(Option<u32>),
 }
 
 impl SynthesisedArg {
     /// The mode that is written at the argument.
     pub(crate) fn mode(&self) -> Mode {
         match self {
-            SynthesisedArg::Value(_) | SynthesisedArg::Left(_) => Mode::In,
+            SynthesisedArg::Value(_) | SynthesisedArg::Open(_) => Mode::In,
             SynthesisedArg::Variable(mode, _) => *mode,
         }
     }
 
     /// Whether a bind leaves it open.
-    pub fn is_left(&self) -> bool {
-        matches!(self, SynthesisedArg::Left(_))
+    pub fn is_open(&self) -> bool {
+        matches!(self, SynthesisedArg::Open(_))
     }
 }
 
@@ -70,7 +70,7 @@ impl Synthesised {
     }
 
     /// The expression, where it has a type by itself.
-    pub fn into_core(self) -> Result<ExprCore, NoMemory> {
+    pub fn into_expr(self) -> Result<TypedExpr, NoMemory> {
         match self {
             Synthesised::Typed(value, _) => Ok(value.core),
             _ => Err(NoMemory),

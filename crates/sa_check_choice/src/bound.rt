@@ -1,19 +1,19 @@
 //! Calls of bound values: `call` of a bound routine, and `call!` of a bound iter.
 
-use crate::choice::{ChosenFeature, Param};
+use crate::check_tables::CheckTables;
+use crate::checked_expr::BodyOutput;
+use crate::choice::{ChosenFeature, ChosenParam};
 use crate::expected::Expected;
-use crate::target::Reached;
-use crate::typed::Built;
+use crate::target::Resolved;
 use crate::types::{number_of, type_of};
-use crate::view::View;
-use sa_core::CalledCore;
-use sa_signatures::{ArgIn, Cand, fits};
-use sa_tree::{FrontFault, ModeTy, NoMemory, Pos, Rule, Ty, held};
+use sa_ast::{ModeTy, NoMemory, Pos, Rejection, Rule, Ty, held};
+use sa_overload::{ActualArg, CandidateSignature, fits};
+use sa_typed::TypedCallee;
 use sqlite_items::{Boxed, Items};
 use std::alloc::Global;
 
 /// The name by which the values of a type are called, where it is a bound type.
-pub fn bound_name(view: &View<'_>, built: &Built, of: u32) -> Option<&'static [u8]> {
+pub fn bound_name(view: &CheckTables<'_>, built: &BodyOutput, of: u32) -> Option<&'static [u8]> {
     match type_of(view, built, of)? {
         Ty::Rout(_, _, _) => Some(b"call"),
         Ty::Iter(_, _, _) => Some(b"call!"),
@@ -24,28 +24,28 @@ pub fn bound_name(view: &View<'_>, built: &Built, of: u32) -> Option<&'static [u
 /// What a call of a bound value of the type with the number `of` reaches: E31 unless number, modes, presence of a result
 /// and types fit.
 pub fn bound_callee(
-    view: &View<'_>,
-    built: &Built,
+    view: &CheckTables<'_>,
+    built: &BodyOutput,
     of: u32,
-    seen: &[ArgIn],
+    seen: &[ActualArg],
     pos: Pos,
     expected: Expected,
-) -> Result<ChosenFeature, FrontFault> {
+) -> Result<ChosenFeature, Rejection> {
     let described = described_type(view.alloc, held(type_of(view, built, of))?)?;
     if !fits(&described, seen, expected.is_result(), view.program.edges()) {
         return Err(Rule::NoFeatureFits.at(pos).into());
     }
     Ok(ChosenFeature {
-        reached: Reached::Called(CalledCore::Bound),
+        resolved: Resolved::Called(TypedCallee::Bound),
         params: params(view, built, described.args.as_slice())?,
         result: number_of_result(view, built, &described.result)?,
     })
 }
 
 /// A bound type as the choice sees it.
-fn described_type(alloc: Global, ty: &Ty) -> Result<Cand, NoMemory> {
+fn described_type(alloc: Global, ty: &Ty) -> Result<CandidateSignature, NoMemory> {
     match ty {
-        Ty::Rout(args, gives, _) | Ty::Iter(args, gives, _) => Ok(Cand {
+        Ty::Rout(args, gives, _) | Ty::Iter(args, gives, _) => Ok(CandidateSignature {
             args: copied_args(alloc, args.as_slice())?,
             result: copied_result(alloc, gives)?,
         }),
@@ -69,18 +69,22 @@ fn copied_result(alloc: Global, gives: &Option<Boxed<Ty>>) -> Result<Option<Ty>,
     }
 }
 
-fn params(view: &View<'_>, built: &Built, args: &[ModeTy]) -> Result<Items<Param>, NoMemory> {
+fn params(
+    view: &CheckTables<'_>,
+    built: &BodyOutput,
+    args: &[ModeTy],
+) -> Result<Items<ChosenParam>, NoMemory> {
     let mut params = Items::new(view.alloc);
     for arg in args {
         let ty = held(number_of(view, built, &arg.ty))?;
-        params.push(Param { mode: arg.mode, ty })?;
+        params.push(ChosenParam { mode: arg.mode, ty })?;
     }
     Ok(params)
 }
 
 fn number_of_result(
-    view: &View<'_>,
-    built: &Built,
+    view: &CheckTables<'_>,
+    built: &BodyOutput,
     gives: &Option<Ty>,
 ) -> Result<Option<u32>, NoMemory> {
     match gives {

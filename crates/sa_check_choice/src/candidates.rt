@@ -1,8 +1,8 @@
 //! The features and signatures that a call by name can choose.
 
-use crate::view::View;
-use sa_signatures::Cand;
-use sa_tree::{FrontFault, NoMemory, Pos, Rule, held};
+use crate::check_tables::CheckTables;
+use sa_ast::{NoMemory, Pos, Rejection, Rule, held};
+use sa_overload::CandidateSignature;
 use sa_types::Sig;
 use sqlite_items::Items;
 
@@ -20,11 +20,11 @@ pub struct Candidate {
 /// The candidates of a call by name on a type, in order: E30 where nothing has the name, and E34 where only private
 /// features have it that the code of the class doesn't see.
 pub(crate) fn candidates(
-    view: &View<'_>,
+    view: &CheckTables<'_>,
     of: u32,
     name: &[u8],
     pos: Pos,
-) -> Result<Items<Candidate>, FrontFault> {
+) -> Result<Items<Candidate>, Rejection> {
     if view.program.is_abstract(of) {
         return signatures(view, view.signatures.named(of, name), pos);
     }
@@ -32,7 +32,11 @@ pub(crate) fn candidates(
 }
 
 /// The signatures at these places.
-fn signatures(view: &View<'_>, places: &[u32], pos: Pos) -> Result<Items<Candidate>, FrontFault> {
+fn signatures(
+    view: &CheckTables<'_>,
+    places: &[u32],
+    pos: Pos,
+) -> Result<Items<Candidate>, Rejection> {
     if places.is_empty() {
         return Err(Rule::UnknownName.at(pos).into());
     }
@@ -50,11 +54,11 @@ fn signatures(view: &View<'_>, places: &[u32], pos: Pos) -> Result<Items<Candida
 
 /// Those of a concrete type's features at these places that are seen.
 fn features(
-    view: &View<'_>,
+    view: &CheckTables<'_>,
     of: u32,
     places: &[u32],
     pos: Pos,
-) -> Result<Items<Candidate>, FrontFault> {
+) -> Result<Items<Candidate>, Rejection> {
     if places.is_empty() {
         return Err(Rule::UnknownName.at(pos).into());
     }
@@ -78,9 +82,9 @@ fn features(
 
 /// The candidates as the choice sees them.
 pub(crate) fn described(
-    view: &View<'_>,
+    view: &CheckTables<'_>,
     candidates: &[Candidate],
-) -> Result<Items<Cand>, NoMemory> {
+) -> Result<Items<CandidateSignature>, NoMemory> {
     let mut described = Items::new(view.alloc);
     for candidate in candidates {
         described.push(description(view, *candidate)?)?;
@@ -89,7 +93,10 @@ pub(crate) fn described(
 }
 
 /// The parameters and the result of a candidate, with the types of its instance put in.
-pub fn description(view: &View<'_>, candidate: Candidate) -> Result<Cand, NoMemory> {
+pub fn description(
+    view: &CheckTables<'_>,
+    candidate: Candidate,
+) -> Result<CandidateSignature, NoMemory> {
     let signature = view
         .program
         .signature(view.alloc, candidate.from, candidate.member)?;
@@ -98,7 +105,7 @@ pub fn description(view: &View<'_>, candidate: Candidate) -> Result<Cand, NoMemo
         args,
         result: gives,
     } = signature;
-    Ok(Cand {
+    Ok(CandidateSignature {
         args,
         result: gives,
     })

@@ -1,16 +1,16 @@
 //! Which candidate a call chooses, and what it then reaches.
 
 use crate::candidates::{Candidate, candidates, described};
+use crate::check_tables::CheckTables;
 use crate::expected::Expected;
-use crate::target::{Reached, reached_by};
-use crate::view::View;
-use sa_signatures::{ArgIn, Cand, Choice, choose, fits};
-use sa_tree::{FrontFault, Mode, NoMemory, Pos, Rule, held};
+use crate::target::{Resolved, resolved_by};
+use sa_ast::{Mode, NoMemory, Pos, Rejection, Rule, held};
+use sa_overload::{ActualArg, CandidateSignature, Resolution, choose, fits};
 use sqlite_items::Items;
 
 /// A parameter of what is called.
 #[derive(Clone, Copy, Debug, PartialEq, Eq)]
-pub struct Param {
+pub struct ChosenParam {
     pub mode: Mode,
     /// The number of its type.
     pub ty: u32,
@@ -19,8 +19,8 @@ pub struct Param {
 /// What a call reaches.
 #[derive(Drop)]
 pub struct ChosenFeature {
-    pub reached: Reached,
-    pub params: Items<Param>,
+    pub resolved: Resolved,
+    pub params: Items<ChosenParam>,
     /// The number of the result's type, or none where it gives no result.
     pub result: Option<u32>,
 }
@@ -31,28 +31,28 @@ pub struct ChosenFeature {
 /// - E30: nothing has the name. E34: only private features have it that aren't seen here.
 /// - E31: none fits. E32: several do, and none of them is the most specific one.
 /// - E41: those that fit have several types where an argument has none, which is a contextual one.
-pub fn chosen(
-    view: &View<'_>,
+pub fn resolve_call(
+    view: &CheckTables<'_>,
     of: u32,
     name: &[u8],
-    args: &[ArgIn],
+    args: &[ActualArg],
     expected: Expected,
     pos: Pos,
-) -> Result<ChosenFeature, FrontFault> {
+) -> Result<ChosenFeature, Rejection> {
     let candidates = Candidates::new(view, of, name, pos)?;
     let candidate = candidates.choice(view, args, expected, pos)?;
     Ok(described_choice(view, of, candidate)?)
 }
 
 /// What the candidate is that a bind's head chooses: one with a result where one fits, and else one without. It is
-/// refused as `chosen` refuses.
+/// refused as `resolve_call` refuses.
 pub fn bound_candidate(
-    view: &View<'_>,
+    view: &CheckTables<'_>,
     of: u32,
     name: &[u8],
-    args: &[ArgIn],
+    args: &[ActualArg],
     pos: Pos,
-) -> Result<Candidate, FrontFault> {
+) -> Result<Candidate, Rejection> {
     let candidates = Candidates::new(view, of, name, pos)?;
     let expected = candidates.result_expected(view, args);
     candidates.choice(view, args, expected, pos)
@@ -60,7 +60,7 @@ pub fn bound_candidate(
 
 /// What is reached by a call on a type that has chosen a candidate.
 pub fn described_choice(
-    view: &View<'_>,
+    view: &CheckTables<'_>,
     of: u32,
     candidate: Candidate,
 ) -> Result<ChosenFeature, NoMemory> {
@@ -68,10 +68,10 @@ pub fn described_choice(
     let mut params = Items::new(view.alloc);
     for (place, mode) in member.modes.as_slice().iter().enumerate() {
         let ty = held(view.program.argument(candidate.from, member, place))?;
-        params.push(Param { mode: *mode, ty })?;
+        params.push(ChosenParam { mode: *mode, ty })?;
     }
     Ok(ChosenFeature {
-        reached: reached_by(view, of, candidate)?,
+        resolved: resolved_by(view, of, candidate)?,
         params,
         result: view.program.result(candidate.from, member),
     })
@@ -81,11 +81,16 @@ pub fn described_choice(
 #[derive(Drop)]
 struct Candidates {
     candidates: Items<Candidate>,
-    described: Items<Cand>,
+    described: Items<CandidateSignature>,
 }
 
 impl Candidates {
-    fn new(view: &View<'_>, of: u32, name: &[u8], pos: Pos) -> Result<Candidates, FrontFault> {
+    fn new(
+        view: &CheckTables<'_>,
+        of: u32,
+        name: &[u8],
+        pos: Pos,
+    ) -> Result<Candidates, Rejection> {
         let candidates = candidates(view, of, name, pos)?;
         let described = described(view, candidates.as_slice())?;
         Ok(Candidates {
@@ -95,7 +100,7 @@ impl Candidates {
     }
 
     /// What a bind expects of its head: a result where one that gives a result fits.
-    fn result_expected(&self, view: &View<'_>, args: &[ArgIn]) -> Expected {
+    fn result_expected(&self, view: &CheckTables<'_>, args: &[ActualArg]) -> Expected {
         let edges = view.program.edges();
         let described = self.described.as_slice();
         if described.iter().any(|cand| fits(cand, args, true, edges)) {
@@ -107,19 +112,19 @@ impl Candidates {
     /// The chosen one: E31, E32, E41.
     fn choice(
         &self,
-        view: &View<'_>,
-        args: &[ArgIn],
+        view: &CheckTables<'_>,
+        args: &[ActualArg],
         expected: Expected,
         pos: Pos,
-    ) -> Result<Candidate, FrontFault> {
+    ) -> Result<Candidate, Rejection> {
         let described = self.described.as_slice();
         if described.len() >= u32::MAX as usize {
-            return Err(FrontFault::NoMemory);
+            return Err(Rejection::NoMemory);
         }
         let place = match choose(described, args, expected.is_result(), view.program.edges()) {
-            Choice::One(place) => place as usize,
-            Choice::NoneFits => return Err(Rule::NoFeatureFits.at(pos).into()),
-            Choice::Several(_, _) => return Err(Rule::SeveralFeaturesFit.at(pos).into()),
+            Resolution::One(place) => place as usize,
+            Resolution::NoneFits => return Err(Rule::NoFeatureFits.at(pos).into()),
+            Resolution::Several(_, _) => return Err(Rule::SeveralFeaturesFit.at(pos).into()),
         };
         let cand = held(described.get(place))?;
         if !have_one_context(view, described, cand, args, expected) {
@@ -131,10 +136,10 @@ impl Candidates {
 
 /// Whether all candidates that fit have the chosen one's types where an argument is contextual.
 fn have_one_context(
-    view: &View<'_>,
-    described: &[Cand],
-    chosen: &Cand,
-    args: &[ArgIn],
+    view: &CheckTables<'_>,
+    described: &[CandidateSignature],
+    chosen: &CandidateSignature,
+    args: &[ActualArg],
     expected: Expected,
 ) -> bool {
     if !args.iter().any(is_contextual) {
@@ -150,12 +155,16 @@ fn have_one_context(
 }
 
 /// Whether an argument takes its type from its parameter.
-fn is_contextual(arg: &ArgIn) -> bool {
+fn is_contextual(arg: &ActualArg) -> bool {
     arg.ty.is_none() && !arg.left
 }
 
 /// Whether two candidates have the same types where an argument is contextual.
-fn is_one_context(one: &Cand, other: &Cand, args: &[ArgIn]) -> bool {
+fn is_one_context(
+    one: &CandidateSignature,
+    other: &CandidateSignature,
+    args: &[ActualArg],
+) -> bool {
     let params = one.args.as_slice().iter().zip(other.args.as_slice());
     for (arg, (one, other)) in args.iter().zip(params) {
         if is_contextual(arg) && one.ty != other.ty {

@@ -1,16 +1,16 @@
 //! A call that chooses a const is its value.
 
-use sa_check_constants::ConstValue;
-use sa_core::ExprCore;
-use sa_tree::NoMemory;
+use sa_ast::NoMemory;
+use sa_constants::ConstValue;
+use sa_typed::TypedExpr;
 use std::alloc::Global;
 
 /// The value of a const.
-pub(crate) fn constant_value(alloc: Global, value: &ConstValue) -> Result<ExprCore, NoMemory> {
+pub(crate) fn constant_value(alloc: Global, value: &ConstValue) -> Result<TypedExpr, NoMemory> {
     match value {
-        ConstValue::Int(value) => Ok(ExprCore::Int(*value)),
-        ConstValue::Bool(value) => Ok(ExprCore::Bool(*value)),
-        ConstValue::Char(byte) => Ok(ExprCore::Char(*byte)),
-        ConstValue::Text(text) => Ok(ExprCore::Text(text.copy(alloc)?)),
+        ConstValue::Int(value) => Ok(TypedExpr::Int(*value)),
+        ConstValue::Bool(value) => Ok(TypedExpr::Bool(*value)),
+        ConstValue::Char(byte) => Ok(TypedExpr::Char(*byte)),
+        ConstValue::Text(text) => Ok(TypedExpr::Text(text.copy(alloc)?)),
     }
 }

@@ -3,23 +3,23 @@
 
 mod bound;
 mod candidates;
+mod check_tables;
+mod checked_expr;
 mod choice;
 mod constant;
 mod expected;
 mod literal;
 mod target;
-mod typed;
 mod types;
 mod variables;
-mod view;
 
 pub use bound::{bound_callee, bound_name};
 pub use candidates::{Candidate, description};
-pub use choice::{ChosenFeature, Param, bound_candidate, chosen, described_choice};
+pub use check_tables::{CheckContext, CheckScope, CheckTables, Variable};
+pub use checked_expr::{BodyOutput, CheckedExpr, first_iter, position};
+pub use choice::{ChosenFeature, ChosenParam, bound_candidate, described_choice, resolve_call};
 pub use expected::Expected;
-pub use literal::{character, exception, int, me, of_type, text, truth};
-pub use target::{Reached, member_target};
-pub use typed::{Built, Typed, first_iter, position};
-pub use types::{is_concrete, is_sub, kind_of, number_of, type_of, widened, written};
+pub use literal::{character, exception, int, of_type, self_ref, text, truth};
+pub use target::{Resolved, member_target};
+pub use types::{boxed, is_concrete, is_sub, kind_of, number_of, type_of, written_type};
 pub use variables::{variable_named, variable_value};
-pub use view::{Context, Place, Variable, View};

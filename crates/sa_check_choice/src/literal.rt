@@ -1,15 +1,15 @@
 //! Forms without children: literals, `self`, `exception` and `new`.
 
-use crate::typed::Typed;
-use crate::view::{Place, View};
-use sa_check_program::{BOOL, CHAR, INT, STR};
-use sa_core::ExprCore;
-use sa_tree::{FrontFault, Name, NoMemory, Pos, Rule, held};
+use crate::check_tables::{CheckScope, CheckTables};
+use crate::checked_expr::CheckedExpr;
+use sa_ast::{Name, NoMemory, Pos, Rejection, Rule, held};
+use sa_instantiate::{BOOL, CHAR, INT, STR};
+use sa_typed::TypedExpr;
 use std::alloc::Global;
 
 /// An expression of a type without an iter call in it.
-pub fn of_type(core: ExprCore, ty: u32) -> Typed {
-    Typed {
+pub fn of_type(core: TypedExpr, ty: u32) -> CheckedExpr {
+    CheckedExpr {
         core,
         ty: Some(ty),
         iter: None,
@@ -17,35 +17,35 @@ pub fn of_type(core: ExprCore, ty: u32) -> Typed {
 }
 
 /// A whole number. A token of one is at most 2147483647.
-pub fn int(value: u32) -> Result<Typed, NoMemory> {
+pub fn int(value: u32) -> Result<CheckedExpr, NoMemory> {
     let value = held(i32::try_from(value).ok())?;
-    Ok(of_type(ExprCore::Int(value), INT))
+    Ok(of_type(TypedExpr::Int(value), INT))
 }
 
 /// `true` or `false`
-pub fn truth(value: bool) -> Typed {
-    of_type(ExprCore::Bool(value), BOOL)
+pub fn truth(value: bool) -> CheckedExpr {
+    of_type(TypedExpr::Bool(value), BOOL)
 }
 
 /// A character.
-pub fn character(value: u8) -> Typed {
-    of_type(ExprCore::Char(value), CHAR)
+pub fn character(value: u8) -> CheckedExpr {
+    of_type(TypedExpr::Char(value), CHAR)
 }
 
 /// A text.
-pub fn text(alloc: Global, text: &Name) -> Result<Typed, NoMemory> {
-    Ok(of_type(ExprCore::Text(text.copy(alloc)?), STR))
+pub fn text(alloc: Global, text: &Name) -> Result<CheckedExpr, NoMemory> {
+    Ok(of_type(TypedExpr::Text(text.copy(alloc)?), STR))
 }
 
 /// `self`
-pub fn me(view: &View<'_>) -> Typed {
-    of_type(ExprCore::Me, view.class)
+pub fn self_ref(view: &CheckTables<'_>) -> CheckedExpr {
+    of_type(TypedExpr::SelfRef, view.class)
 }
 
 /// `exception`: E44 outside a branch of a protect.
-pub fn exception(place: &Place, pos: Pos) -> Result<Typed, FrontFault> {
+pub fn exception(place: &CheckScope, pos: Pos) -> Result<CheckedExpr, Rejection> {
     match place.branch {
         None => Err(Rule::ExceptionOutsideBranch.at(pos).into()),
-        Some(ty) => Ok(of_type(ExprCore::Exception, ty)),
+        Some(ty) => Ok(of_type(TypedExpr::Exception, ty)),
     }
 }

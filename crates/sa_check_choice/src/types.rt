@@ -3,14 +3,18 @@
 //! The numbers below the program's count are its needed instances; those from there on are the bound types that binds
 //! make and that the program writes nowhere, in the order of the binds.
 
-use crate::typed::Built;
-use crate::view::View;
-use sa_core::ExprCore;
-use sa_tree::{Kind, NoMemory, Pos, Ty};
+use crate::check_tables::CheckTables;
+use crate::checked_expr::BodyOutput;
+use sa_ast::{ClassKind, NoMemory, Pos, Ty};
+use sa_typed::TypedExpr;
 use sqlite_items::Boxed;
 
 /// The type with a number.
-pub fn type_of<'a>(view: &'a View<'_>, built: &'a Built, number: u32) -> Option<&'a Ty> {
+pub fn type_of<'a>(
+    view: &'a CheckTables<'_>,
+    built: &'a BodyOutput,
+    number: u32,
+) -> Option<&'a Ty> {
     let needed = view.program.count();
     if number < needed {
         return view.program.ty(number);
@@ -21,7 +25,7 @@ pub fn type_of<'a>(view: &'a View<'_>, built: &'a Built, number: u32) -> Option<
 
 /// The number of a type without parameters of the class and without SAME. Whether none has: it is no needed instance, and
 /// no bind has made it yet.
-pub fn number_of(view: &View<'_>, built: &Built, ty: &Ty) -> Option<u32> {
+pub fn number_of(view: &CheckTables<'_>, built: &BodyOutput, ty: &Ty) -> Option<u32> {
     if let Some(number) = view.program.number(ty) {
         return Some(number);
     }
@@ -31,7 +35,7 @@ pub fn number_of(view: &View<'_>, built: &Built, ty: &Ty) -> Option<u32> {
 }
 
 /// The number of a type as the text of the class writes it.
-pub fn written(view: &View<'_>, ty: &Ty) -> Option<u32> {
+pub fn written_type(view: &CheckTables<'_>, ty: &Ty) -> Option<u32> {
     match view.program.number_of(view.class, ty) {
         None => view.program.number(ty),
         number => number,
@@ -39,7 +43,7 @@ pub fn written(view: &View<'_>, ty: &Ty) -> Option<u32> {
 }
 
 /// Whether the type with the first number is a subtype of the type with the second.
-pub fn is_sub(view: &View<'_>, built: &Built, s: u32, t: u32) -> bool {
+pub fn is_sub(view: &CheckTables<'_>, built: &BodyOutput, s: u32, t: u32) -> bool {
     if s == t {
         return true;
     }
@@ -51,30 +55,33 @@ pub fn is_sub(view: &View<'_>, built: &Built, s: u32, t: u32) -> bool {
 
 /// A value of one type where another one is expected. A value of an immutable class is widened where an abstract type is
 /// expected; the position is that of the expression which is widened.
-pub fn widened(
-    view: &View<'_>,
-    value: ExprCore,
+pub fn boxed(
+    view: &CheckTables<'_>,
+    value: TypedExpr,
     from: u32,
     to: u32,
     pos: Pos,
-) -> Result<ExprCore, NoMemory> {
-    if !is_widening(view, from, to) {
+) -> Result<TypedExpr, NoMemory> {
+    if !is_boxing(view, from, to) {
         return Ok(value);
     }
-    Ok(ExprCore::Widen(from, Boxed::new(view.alloc, value)?, pos))
+    Ok(TypedExpr::Box(from, Boxed::new(view.alloc, value)?, pos))
 }
 
 /// Whether a value of the first type is widened where the second type is expected.
-fn is_widening(view: &View<'_>, from: u32, to: u32) -> bool {
-    kind_of(view, from) == Kind::Immutable && kind_of(view, to) == Kind::Abstract
+fn is_boxing(view: &CheckTables<'_>, from: u32, to: u32) -> bool {
+    kind_of(view, from) == ClassKind::Immutable && kind_of(view, to) == ClassKind::Abstract
 }
 
 /// The kind of the type with a number. A bound type has the kind of a reference class, also one that a bind makes.
-pub fn kind_of(view: &View<'_>, number: u32) -> Kind {
-    view.program.kind(number).unwrap_or(Kind::Reference)
+pub fn kind_of(view: &CheckTables<'_>, number: u32) -> ClassKind {
+    view.program.kind(number).unwrap_or(ClassKind::Reference)
 }
 
 /// Whether the type with a number is one of a class whose features are known: no abstract type.
-pub fn is_concrete(view: &View<'_>, number: u32) -> bool {
-    matches!(kind_of(view, number), Kind::Reference | Kind::Immutable)
+pub fn is_concrete(view: &CheckTables<'_>, number: u32) -> bool {
+    matches!(
+        kind_of(view, number),
+        ClassKind::Reference | ClassKind::Immutable
+    )
 }

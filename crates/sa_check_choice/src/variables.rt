@@ -1,14 +1,14 @@
 //! Names of variables.
 
-use crate::typed::Typed;
-use crate::view::{Place, Variable};
-use sa_core::ExprCore;
-use sa_tree::{Expr, Recv};
+use crate::check_tables::{CheckScope, Variable};
+use crate::checked_expr::CheckedExpr;
+use sa_ast::{Expr, ExprReceiver};
+use sa_typed::TypedExpr;
 
 /// The variable that an expression names. A name with arguments, or behind a value or a class, is that of a feature.
-pub fn variable_named(place: &Place, e: &Expr) -> Option<Variable> {
+pub fn variable_named(place: &CheckScope, e: &Expr) -> Option<Variable> {
     match e {
-        Expr::Call(Recv::Implied, name, args, _) if args.is_empty() => {
+        Expr::Call(ExprReceiver::Implied, name, args, _) if args.is_empty() => {
             place.vars.get(name).copied()
         }
         _ => None,
@@ -16,9 +16,9 @@ pub fn variable_named(place: &Place, e: &Expr) -> Option<Variable> {
 }
 
 /// The value of a variable.
-pub fn variable_value(variable: Variable) -> Typed {
-    Typed {
-        core: ExprCore::Var(variable.number),
+pub fn variable_value(variable: Variable) -> CheckedExpr {
+    CheckedExpr {
+        core: TypedExpr::Var(variable.number),
         ty: Some(variable.ty),
         iter: None,
     }

@@ -1,170 +1,172 @@
 //! The row of a form with what stands inside it, typed or refused: of several refusals inside the first one counts.
 
-use sa_check_calls::{CallHead, Receiver, Synthesised, SynthesisedArg, call_form, checked};
+use sa_ast::{Expr, Operator, Pos, Rejection, Ty};
+use sa_check_calls::{CallHead, Receiver, Synthesised, SynthesisedArg, call_form, check_value};
 use sa_check_choice::{
-    Built, Context, Expected, Typed, View, character, exception, int, me, text, truth, written,
+    BodyOutput, CheckContext, CheckTables, CheckedExpr, Expected, character, exception, int,
+    self_ref, text, truth, written_type,
 };
 use sa_check_forms::{
-    Operation, binary, bind_form, connected, create, index, is_void, new_array, new_object, unary,
+    OperatorCall, binary, bind_form, create, index, is_void, new_array, new_object, short_circuit,
+    unary,
 };
-use sa_tree::{Expr, FrontFault, Op, Pos, Ty};
 use std::alloc::Global;
 
 /// What the typing of a part of a form gave.
-type Inside<T> = Result<T, FrontFault>;
+type Checked<T> = Result<T, Rejection>;
 
 /// A form that holds no expressions. The others are no such form.
 pub(crate) fn without_inside(
-    context: Context<'_>,
-    built: &Built,
+    context: CheckContext<'_>,
+    built: &BodyOutput,
     e: &Expr,
     expected: Expected,
-) -> Result<Typed, FrontFault> {
+) -> Result<CheckedExpr, Rejection> {
     match e {
         Expr::Int(value, _) => Ok(int(*value)?),
         Expr::Bool(value, _) => Ok(truth(*value)),
         Expr::Char(value, _) => Ok(character(*value)),
         Expr::Text(value, _) => Ok(text(context.view.alloc, value)?),
-        Expr::Me(_) => Ok(me(context.view)),
-        Expr::Void(pos) => checked(context.view, built, Synthesised::Void(*pos), expected),
+        Expr::SelfRef(_) => Ok(self_ref(context.view)),
+        Expr::Void(pos) => check_value(context.view, built, Synthesised::Void(*pos), expected),
         Expr::Exception(pos) => exception(context.place, *pos),
         Expr::New(_, pos) => new_object(context.view, *pos),
-        _ => Err(FrontFault::NoMemory),
+        _ => Err(Rejection::NoMemory),
     }
 }
 
 /// `void(e)`
 pub(crate) fn void_test(
     alloc: Global,
-    of: Inside<Synthesised>,
+    of: Checked<Synthesised>,
     pos: Pos,
-) -> Result<Typed, FrontFault> {
+) -> Result<CheckedExpr, Rejection> {
     is_void(alloc, of?, pos)
 }
 
 /// `new(n)`
 pub(crate) fn array_object(
-    view: &View<'_>,
-    length: Inside<Typed>,
+    view: &CheckTables<'_>,
+    length: Checked<CheckedExpr>,
     pos: Pos,
-) -> Result<Typed, FrontFault> {
+) -> Result<CheckedExpr, Rejection> {
     new_array(view, length?, pos)
 }
 
 /// `#(..)` without a type, at the type that its place expects.
 pub(crate) fn object_here(
-    view: &View<'_>,
-    built: &Built,
-    args: Inside<Vec<SynthesisedArg>>,
+    view: &CheckTables<'_>,
+    built: &BodyOutput,
+    args: Checked<Vec<SynthesisedArg>>,
     expected: Expected,
     pos: Pos,
-) -> Result<Typed, FrontFault> {
-    checked(view, built, Synthesised::Create(args?, pos), expected)
+) -> Result<CheckedExpr, Rejection> {
+    check_value(view, built, Synthesised::Create(args?, pos), expected)
 }
 
 /// `#C(..)`
 pub(crate) fn object_of(
-    context: Context<'_>,
-    built: &mut Built,
+    context: CheckContext<'_>,
+    built: &mut BodyOutput,
     class: &Ty,
-    args: Inside<Vec<SynthesisedArg>>,
+    args: Checked<Vec<SynthesisedArg>>,
     pos: Pos,
     expected: Expected,
-) -> Result<Typed, FrontFault> {
-    let class = written(context.view, class);
+) -> Result<CheckedExpr, Rejection> {
+    let class = written_type(context.view, class);
     create(context, built, class, args?, pos, expected)
 }
 
 /// An array literal, at the type that its place expects.
 pub(crate) fn array(
-    view: &View<'_>,
-    built: &Built,
-    items: Inside<Vec<Synthesised>>,
+    view: &CheckTables<'_>,
+    built: &BodyOutput,
+    items: Checked<Vec<Synthesised>>,
     expected: Expected,
     pos: Pos,
-) -> Result<Typed, FrontFault> {
-    checked(view, built, Synthesised::Items(items?, pos), expected)
+) -> Result<CheckedExpr, Rejection> {
+    check_value(view, built, Synthesised::Items(items?, pos), expected)
 }
 
 /// A call by name that isn't a variable.
 pub(crate) fn called(
-    context: Context<'_>,
-    built: &mut Built,
+    context: CheckContext<'_>,
+    built: &mut BodyOutput,
     head: CallHead<'_>,
-    receiver: Inside<Receiver>,
-    args: Inside<Vec<SynthesisedArg>>,
+    receiver: Checked<Receiver>,
+    args: Checked<Vec<SynthesisedArg>>,
     expected: Expected,
-) -> Result<Typed, FrontFault> {
+) -> Result<CheckedExpr, Rejection> {
     call_form(context, built, head, receiver?, args?, expected)
 }
 
 /// `and` and `or`
 pub(crate) fn joined(
     alloc: Global,
-    op: Op,
-    left: Inside<Typed>,
-    right: Inside<Typed>,
+    op: Operator,
+    left: Checked<CheckedExpr>,
+    right: Checked<CheckedExpr>,
     pos: Pos,
-) -> Result<Typed, FrontFault> {
-    connected(alloc, op, left?, right?, pos)
+) -> Result<CheckedExpr, Rejection> {
+    short_circuit(alloc, op, left?, right?, pos)
 }
 
 /// Another operator of two operands.
 pub(crate) fn operated(
-    context: Context<'_>,
-    built: &mut Built,
-    operation: Operation,
-    left: Inside<Receiver>,
-    right: Inside<Synthesised>,
+    context: CheckContext<'_>,
+    built: &mut BodyOutput,
+    operation: OperatorCall,
+    left: Checked<Receiver>,
+    right: Checked<Synthesised>,
     expected: Expected,
-) -> Result<Typed, FrontFault> {
+) -> Result<CheckedExpr, Rejection> {
     binary(context, built, operation, left?, right?, expected)
 }
 
 /// `-` and `~` in front of an operand.
 pub(crate) fn signed(
-    context: Context<'_>,
-    built: &mut Built,
-    op: Op,
-    of: Inside<Receiver>,
+    context: CheckContext<'_>,
+    built: &mut BodyOutput,
+    op: Operator,
+    of: Checked<Receiver>,
     pos: Pos,
     expected: Expected,
-) -> Result<Typed, FrontFault> {
+) -> Result<CheckedExpr, Rejection> {
     unary(context, built, op, of?, pos, expected)
 }
 
 /// `e[..]` and `[..]`
 pub(crate) fn indexed(
-    context: Context<'_>,
-    built: &mut Built,
-    of: Inside<Receiver>,
-    places: Inside<Vec<Synthesised>>,
+    context: CheckContext<'_>,
+    built: &mut BodyOutput,
+    of: Checked<Receiver>,
+    places: Checked<Vec<Synthesised>>,
     pos: Pos,
     expected: Expected,
-) -> Result<Typed, FrontFault> {
+) -> Result<CheckedExpr, Rejection> {
     index(context, built, of?, places?, pos, expected)
 }
 
 /// `bind(..)` of a call by name.
 pub(crate) fn bound(
-    context: Context<'_>,
-    built: &mut Built,
+    context: CheckContext<'_>,
+    built: &mut BodyOutput,
     head: &Expr,
-    receiver: Inside<Receiver>,
-    args: Inside<Vec<SynthesisedArg>>,
+    receiver: Checked<Receiver>,
+    args: Checked<Vec<SynthesisedArg>>,
     pos: Pos,
-) -> Result<Typed, FrontFault> {
+) -> Result<CheckedExpr, Rejection> {
     bind_form(context, built, head, receiver?, args?, pos)
 }
 
 /// That a part is typed.
-pub(crate) fn done<T: Drop>(part: Inside<T>) -> Result<(), FrontFault> {
+pub(crate) fn done<T: Drop>(part: Checked<T>) -> Result<(), Rejection> {
     let _part = part?;
     Ok(())
 }
 
 /// That two parts are typed.
-pub(crate) fn both<T: Drop, U: Drop>(one: Inside<T>, other: Inside<U>) -> Result<(), FrontFault> {
+pub(crate) fn both<T: Drop, U: Drop>(one: Checked<T>, other: Checked<U>) -> Result<(), Rejection> {
     done(one)?;
     done(other)
 }

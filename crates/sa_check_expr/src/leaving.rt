@@ -1,10 +1,10 @@
 //! `while!`, `until!` and `break!` as statements.
 
-use crate::children::{GivenTo, arguments};
+use crate::children::{ArgContext, arguments};
+use sa_ast::{Expr, Rejection};
 use sa_check_calls::{LeavingCall, leave_form};
-use sa_check_choice::{Built, Context};
-use sa_core::StmtCore;
-use sa_tree::{Expr, FrontFault};
+use sa_check_choice::{BodyOutput, CheckContext};
+use sa_typed::TypedStmt;
 
 /// The statement that leaves the innermost loop: `break!`, or `while!` or `until!` with their test. None where the expression
 /// is none of them. It is refused at its name, after what is refused inside it:
@@ -13,16 +13,16 @@ use sa_tree::{Expr, FrontFault};
 /// - E31: `break!` has an argument, or another one hasn't exactly one.
 /// - E33: its argument isn't a BOOL.
 pub fn leave(
-    context: Context<'_>,
-    built: &mut Built,
+    context: CheckContext<'_>,
+    built: &mut BodyOutput,
     e: &Expr,
-) -> Result<Option<StmtCore>, FrontFault> {
+) -> Result<Option<TypedStmt>, Rejection> {
     let Expr::Call(on, name, args, pos) = e else {
         return Ok(None);
     };
     let Some(call) = LeavingCall::of_call(on, name) else {
         return Ok(None);
     };
-    let args = arguments(context, built, args.as_slice(), GivenTo::Call)?;
+    let args = arguments(context, built, args.as_slice(), ArgContext::Call)?;
     Ok(Some(leave_form(context, built, call, args, *pos)?))
 }

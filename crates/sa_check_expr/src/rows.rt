@@ -1,52 +1,54 @@
 //! The row of each form of an expression. Its children are typed first, from left to right, and then the row's conditions
 //! are asked in their order.
 
-use crate::children::{GivenTo, arguments, synthesised, synthesised_all};
+use crate::children::{ArgContext, arguments, synthesise, synthesise_all};
 use crate::inside::{
     array, array_object, bound, called, indexed, joined, object_here, object_of, operated, signed,
     void_test, without_inside,
 };
 use crate::part::parts;
 use crate::receiver::{operand, receiver_of};
+use sa_ast::{Expr, Operator, Pos, Rejection, Rule};
 use sa_check_calls::{CallHead, Receiver};
-use sa_check_choice::{Built, Context, Expected, Typed, position, variable_named, variable_value};
-use sa_check_forms::Operation;
-use sa_check_program::{BOOL, INT};
-use sa_tree::{Expr, FrontFault, Op, Pos, Rule};
+use sa_check_choice::{
+    BodyOutput, CheckContext, CheckedExpr, Expected, position, variable_named, variable_value,
+};
+use sa_check_forms::OperatorCall;
+use sa_instantiate::{BOOL, INT};
 
 /// Whether an operator is `and` or `or`, whose operands are BOOL.
-fn is_of_bool(op: Op) -> bool {
-    op == Op::And || op == Op::Or
+fn is_of_bool(op: Operator) -> bool {
+    op == Operator::And || op == Operator::Or
 }
 
 /// Types an expression, of which its place expects this. The sites of its iter calls and the bound types of its binds are put
 /// into `built`, which may have grown where it is refused.
 #[cycle(typed)]
-pub fn typed(
-    context: Context<'_>,
-    built: &mut Built,
+pub fn type_expr(
+    context: CheckContext<'_>,
+    built: &mut BodyOutput,
     e: &Expr,
     expected: Expected,
-) -> Result<Typed, FrontFault> {
+) -> Result<CheckedExpr, Rejection> {
     match e {
         Expr::IsVoid(of, pos) => {
-            let of = synthesised(context, built, of.get());
+            let of = synthesise(context, built, of.get());
             void_test(context.view.alloc, of, *pos)
         }
         Expr::New(Some(length), pos) => {
-            let length = typed(context, built, length.get(), Expected::Type(INT));
+            let length = type_expr(context, built, length.get(), Expected::Type(INT));
             array_object(context.view, length, *pos)
         }
         Expr::Create(None, args, pos) => {
-            let args = arguments(context, built, args.as_slice(), GivenTo::Call);
+            let args = arguments(context, built, args.as_slice(), ArgContext::Call);
             object_here(context.view, built, args, expected, *pos)
         }
         Expr::Create(Some(class), args, pos) => {
-            let args = arguments(context, built, args.as_slice(), GivenTo::Call);
+            let args = arguments(context, built, args.as_slice(), ArgContext::Call);
             object_of(context, built, class, args, *pos, expected)
         }
         Expr::Items(items, pos) => {
-            let items = synthesised_all(context, built, items.as_slice());
+            let items = synthesise_all(context, built, items.as_slice());
             array(context.view, built, items, expected, *pos)
         }
         Expr::Call(on, name, args, pos) => {
@@ -54,7 +56,7 @@ pub fn typed(
                 return Ok(variable_value(variable));
             }
             let receiver = receiver_of(context, built, on);
-            let args = arguments(context, built, args.as_slice(), GivenTo::Call);
+            let args = arguments(context, built, args.as_slice(), ArgContext::Call);
             let pos = *pos;
             let head = CallHead { on, name, pos };
             called(context, built, head, receiver, args, expected)
@@ -62,13 +64,13 @@ pub fn typed(
         Expr::Binary(op, one, other, pos) => {
             let (one, other) = (one.get(), other.get());
             if is_of_bool(*op) {
-                let left = typed(context, built, one, Expected::Type(BOOL));
-                let right = typed(context, built, other, Expected::Type(BOOL));
+                let left = type_expr(context, built, one, Expected::Type(BOOL));
+                let right = type_expr(context, built, other, Expected::Type(BOOL));
                 return joined(context.view.alloc, *op, left, right, *pos);
             }
             let left = operand(context, built, one);
-            let right = synthesised(context, built, other);
-            let operation = Operation {
+            let right = synthesise(context, built, other);
+            let operation = OperatorCall {
                 op: *op,
                 left: position(one),
                 pos: *pos,
@@ -80,13 +82,13 @@ pub fn typed(
             signed(context, built, *op, of, *pos, expected)
         }
         Expr::Index(None, places, pos) => {
-            let places = synthesised_all(context, built, places.as_slice());
+            let places = synthesise_all(context, built, places.as_slice());
             let own = Ok(Receiver::Own);
             indexed(context, built, own, places, *pos, expected)
         }
         Expr::Index(Some(of), places, pos) => {
             let of = operand(context, built, of.get());
-            let places = synthesised_all(context, built, places.as_slice());
+            let places = synthesise_all(context, built, places.as_slice());
             indexed(context, built, of, places, *pos, expected)
         }
         Expr::Bind(head, pos) => bind(context, built, head.get(), *pos),
@@ -97,15 +99,15 @@ pub fn typed(
 /// `bind(..)` of a head: E45 unless that is a call by name.
 #[cycle(typed)]
 fn bind(
-    context: Context<'_>,
-    built: &mut Built,
+    context: CheckContext<'_>,
+    built: &mut BodyOutput,
     head: &Expr,
     pos: Pos,
-) -> Result<Typed, FrontFault> {
+) -> Result<CheckedExpr, Rejection> {
     match head {
         Expr::Call(on, _, args, _) => {
             let receiver = receiver_of(context, built, on);
-            let args = arguments(context, built, args.as_slice(), GivenTo::BindHead);
+            let args = arguments(context, built, args.as_slice(), ArgContext::BindHead);
             bound(context, built, head, receiver, args, pos)
         }
         _ => {

@@ -1,15 +1,15 @@
 //! Binds: a call some of whose arguments are given later.
 
+use sa_ast::{Expr, ModeTy, NoMemory, Pos, Rejection, Rule, Ty, held};
 use sa_check_calls::{
-    Call, LeavingCall, PassedArgs, Receiver, SynthesisedArg, is_iter_name, passed, seen_arguments,
+    Call, LeavingCall, PassedArgs, Receiver, SynthesisedArg, actual_args, is_iter_name, pass_args,
 };
 use sa_check_choice::{
-    Built, Candidate, Context, Place, Typed, View, bound_candidate, described_choice, description,
-    first_iter, number_of, position, variable_named,
+    BodyOutput, Candidate, CheckContext, CheckScope, CheckTables, CheckedExpr, bound_candidate,
+    described_choice, description, first_iter, number_of, position, variable_named,
 };
-use sa_core::{CalledCore, ExprCore};
-use sa_signatures::Cand;
-use sa_tree::{Expr, FrontFault, ModeTy, NoMemory, Pos, Rule, Ty, held};
+use sa_overload::CandidateSignature;
+use sa_typed::{TypedCallee, TypedExpr};
 use sqlite_items::{Boxed, Items};
 use std::alloc::Global;
 
@@ -21,13 +21,13 @@ use std::alloc::Global;
 ///
 /// The head is refused at its name as another call is, but that it may stand outside a loop and within a protect.
 pub fn bind_form(
-    context: Context<'_>,
-    built: &mut Built,
+    context: CheckContext<'_>,
+    built: &mut BodyOutput,
     head: &Expr,
     on: Receiver,
     args: Vec<SynthesisedArg>,
     pos: Pos,
-) -> Result<Typed, FrontFault> {
+) -> Result<CheckedExpr, Rejection> {
     let Some(name) = bindable_name(context.place, head) else {
         return Err(Rule::BadBind.at(pos).into());
     };
@@ -45,7 +45,7 @@ pub fn bind_form(
 
 /// The name of a head that is a call by name and can be bound: it isn't a variable, `call`, `call!`, `while!`, `until!` or
 /// `break!`.
-fn bindable_name<'e>(place: &Place, head: &'e Expr) -> Option<&'e [u8]> {
+fn bindable_name<'e>(place: &CheckScope, head: &'e Expr) -> Option<&'e [u8]> {
     let Expr::Call(on, name, _, _) = head else {
         return None;
     };
@@ -70,12 +70,17 @@ fn writes(args: &[SynthesisedArg]) -> bool {
 struct Head {
     of: u32,
     candidate: Candidate,
-    called: CalledCore,
+    called: TypedCallee,
     ty: u32,
 }
 
 /// The bound value of a head.
-fn bind(view: &View<'_>, built: &mut Built, form: Call<'_>, pos: Pos) -> Result<Typed, FrontFault> {
+fn bind(
+    view: &CheckTables<'_>,
+    built: &mut BodyOutput,
+    form: Call<'_>,
+    pos: Pos,
+) -> Result<CheckedExpr, Rejection> {
     let head = head_of(view, built, &form, pos)?;
     let Call {
         on,
@@ -89,11 +94,11 @@ fn bind(view: &View<'_>, built: &mut Built, form: Call<'_>, pos: Pos) -> Result<
 
 /// What a head chooses: E45 where that is a const.
 fn head_of(
-    view: &View<'_>,
-    built: &mut Built,
+    view: &CheckTables<'_>,
+    built: &mut BodyOutput,
     form: &Call<'_>,
     pos: Pos,
-) -> Result<Head, FrontFault> {
+) -> Result<Head, Rejection> {
     let of = form.on.ty(view, form.pos)?;
     let candidate = head_candidate(view, built, of, form)?;
     let Some(called) = head_called(view, of, candidate)? else {
@@ -110,34 +115,34 @@ fn head_of(
 
 /// The candidate that a head chooses.
 fn head_candidate(
-    view: &View<'_>,
-    built: &Built,
+    view: &CheckTables<'_>,
+    built: &BodyOutput,
     of: u32,
     form: &Call<'_>,
-) -> Result<Candidate, FrontFault> {
-    let seen = seen_arguments(view, built, form.args.as_slice())?;
+) -> Result<Candidate, Rejection> {
+    let seen = actual_args(view, built, form.args.as_slice())?;
     bound_candidate(view, of, form.name, seen.as_slice(), form.pos)
 }
 
 /// What a candidate calls. A const calls nothing.
 fn head_called(
-    view: &View<'_>,
+    view: &CheckTables<'_>,
     of: u32,
     candidate: Candidate,
-) -> Result<Option<CalledCore>, NoMemory> {
-    Ok(described_choice(view, of, candidate)?.reached.called())
+) -> Result<Option<TypedCallee>, NoMemory> {
+    Ok(described_choice(view, of, candidate)?.resolved.called())
 }
 
 /// The arguments of a head at the parameters of what it calls.
 fn head_passed(
-    view: &View<'_>,
-    built: &Built,
+    view: &CheckTables<'_>,
+    built: &BodyOutput,
     head: Head,
     args: Vec<SynthesisedArg>,
     at: Pos,
-) -> Result<PassedArgs, FrontFault> {
+) -> Result<PassedArgs, Rejection> {
     let choice = described_choice(view, head.of, head.candidate)?;
-    passed(view, built, args, choice.params.as_slice(), at)
+    pass_args(view, built, args, choice.params.as_slice(), at)
 }
 
 /// The bind of what the head calls.
@@ -147,16 +152,16 @@ fn bound_value(
     on: Receiver,
     passed: PassedArgs,
     pos: Pos,
-) -> Result<Typed, NoMemory> {
+) -> Result<CheckedExpr, NoMemory> {
     let PassedArgs {
         args,
         iter,
         once: _once,
     } = passed;
     let iter = first_iter(on.iter(), iter);
-    let on = Boxed::new(alloc, on.into_core()?)?;
-    Ok(Typed {
-        core: ExprCore::Bind(head.called, on, args, head.ty, pos),
+    let on = Boxed::new(alloc, on.into_expr()?)?;
+    Ok(CheckedExpr {
+        core: TypedExpr::Bind(head.called, on, args, head.ty, pos),
         ty: Some(head.ty),
         iter,
     })
@@ -164,8 +169,8 @@ fn bound_value(
 
 /// The number of the type of a bound value.
 fn bound_number(
-    view: &View<'_>,
-    built: &mut Built,
+    view: &CheckTables<'_>,
+    built: &mut BodyOutput,
     form: &Call<'_>,
     candidate: Candidate,
     pos: Pos,
@@ -177,12 +182,12 @@ fn bound_number(
 /// The type of a bound value at the position of its bind: over the open arguments in order, each with the mode and the type
 /// of its parameter. The types keep the positions at which the candidate writes them.
 fn bound_type(
-    view: &View<'_>,
+    view: &CheckTables<'_>,
     form: &Call<'_>,
     candidate: Candidate,
     pos: Pos,
 ) -> Result<Ty, NoMemory> {
-    let Cand {
+    let CandidateSignature {
         args: params,
         result: gives,
     } = description(view, candidate)?;
@@ -206,7 +211,7 @@ fn open_params(
 ) -> Result<Items<ModeTy>, NoMemory> {
     let mut open = Items::new(alloc);
     for (arg, param) in args.iter().zip(params) {
-        if arg.is_left() {
+        if arg.is_open() {
             let ty = param.ty.copy(alloc)?;
             open.push(ModeTy {
                 mode: param.mode,
@@ -218,7 +223,11 @@ fn open_params(
 }
 
 /// The number of the type of a bound value, which is a new one where it is no needed instance and no bind has made it.
-fn number_of_bound(view: &View<'_>, built: &mut Built, ty: Ty) -> Result<u32, NoMemory> {
+fn number_of_bound(
+    view: &CheckTables<'_>,
+    built: &mut BodyOutput,
+    ty: Ty,
+) -> Result<u32, NoMemory> {
     if let Some(number) = number_of(view, built, &ty) {
         return Ok(number);
     }

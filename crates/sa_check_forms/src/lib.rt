@@ -4,8 +4,8 @@
 mod bind;
 mod object;
 mod operator;
-mod swapped;
+mod reversed;
 
 pub use bind::bind_form;
 pub use object::{create, is_void, new_array, new_object};
-pub use operator::{Operation, binary, connected, index, unary};
+pub use operator::{OperatorCall, binary, index, short_circuit, unary};

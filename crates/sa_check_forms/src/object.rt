@@ -1,27 +1,33 @@
 //! New objects, those that a class creates, and the test for void.
 
+use sa_ast::{ClassKind, Pos, Rejection, Rule, held};
 use sa_check_calls::{Call, Receiver, Synthesised, SynthesisedArg, typed_call};
-use sa_check_choice::{Built, Context, Expected, Typed, View, kind_of, of_type};
-use sa_check_program::{BOOL, INT};
-use sa_core::ExprCore;
-use sa_tree::{FrontFault, Kind, Pos, Rule, held};
+use sa_check_choice::{
+    BodyOutput, CheckContext, CheckTables, CheckedExpr, Expected, kind_of, of_type,
+};
+use sa_instantiate::{BOOL, INT};
+use sa_typed::TypedExpr;
 use sqlite_items::Boxed;
 use std::alloc::Global;
 
 /// `new`. E30: the class is no reference class. E31: its objects have an array part, whose length is missing.
-pub fn new_object(view: &View<'_>, pos: Pos) -> Result<Typed, FrontFault> {
-    if kind_of(view, view.class) != Kind::Reference {
+pub fn new_object(view: &CheckTables<'_>, pos: Pos) -> Result<CheckedExpr, Rejection> {
+    if kind_of(view, view.class) != ClassKind::Reference {
         return Err(Rule::UnknownName.at(pos).into());
     }
     if view.program.has_array(view.class) {
         return Err(Rule::NoFeatureFits.at(pos).into());
     }
-    Ok(of_type(ExprCore::New(view.class, pos), view.class))
+    Ok(of_type(TypedExpr::New(view.class, pos), view.class))
 }
 
 /// `new(n)`. E30: the class is no reference class. E31: its objects have no array part. E33: the length is no INT.
-pub fn new_array(view: &View<'_>, length: Typed, pos: Pos) -> Result<Typed, FrontFault> {
-    if kind_of(view, view.class) != Kind::Reference {
+pub fn new_array(
+    view: &CheckTables<'_>,
+    length: CheckedExpr,
+    pos: Pos,
+) -> Result<CheckedExpr, Rejection> {
+    if kind_of(view, view.class) != ClassKind::Reference {
         return Err(Rule::UnknownName.at(pos).into());
     }
     if !view.program.has_array(view.class) {
@@ -30,8 +36,8 @@ pub fn new_array(view: &View<'_>, length: Typed, pos: Pos) -> Result<Typed, Fron
     if length.ty != Some(INT) {
         return Err(Rule::WrongType.at(pos).into());
     }
-    Ok(Typed {
-        core: ExprCore::NewArray(view.class, Boxed::new(view.alloc, length.core)?, pos),
+    Ok(CheckedExpr {
+        core: TypedExpr::NewArray(view.class, Boxed::new(view.alloc, length.core)?, pos),
         ty: Some(view.class),
         iter: length.iter,
     })
@@ -39,13 +45,13 @@ pub fn new_array(view: &View<'_>, length: Typed, pos: Pos) -> Result<Typed, Fron
 
 /// `#C(..)` with the number of its class: a call of `create` on void of the class.
 pub fn create(
-    context: Context<'_>,
-    built: &mut Built,
+    context: CheckContext<'_>,
+    built: &mut BodyOutput,
     class: Option<u32>,
     args: Vec<SynthesisedArg>,
     pos: Pos,
     expected: Expected,
-) -> Result<Typed, FrontFault> {
+) -> Result<CheckedExpr, Rejection> {
     let class = held(class)?;
     let form = Call {
         on: Receiver::Class(class),
@@ -57,12 +63,12 @@ pub fn create(
 }
 
 /// `void(e)`: E41 where the expression is contextual.
-pub fn is_void(alloc: Global, of: Synthesised, pos: Pos) -> Result<Typed, FrontFault> {
+pub fn is_void(alloc: Global, of: Synthesised, pos: Pos) -> Result<CheckedExpr, Rejection> {
     let Synthesised::Typed(of, _) = of else {
         return Err(Rule::NoTypeFromContext.at(pos).into());
     };
-    Ok(Typed {
-        core: ExprCore::IsVoid(Boxed::new(alloc, of.core)?),
+    Ok(CheckedExpr {
+        core: TypedExpr::IsVoid(Boxed::new(alloc, of.core)?),
         ty: Some(BOOL),
         iter: of.iter,
     })

@@ -4,45 +4,45 @@
 //! has a feature of that name, seen or not. Elsewhere `a <= b` means `~(b < a)`, `a > b` means `b < a`, `a >= b` means
 //! `~(a < b)` and `a /= b` means `~(a = b)`. Operands are evaluated from left to right all the same.
 
-use crate::swapped::swapped;
+use crate::reversed::reversed;
+use sa_ast::{NoMemory, Operator, Pos, Rejection, Rule};
 use sa_check_calls::{Call, Receiver, Synthesised, SynthesisedArg, typed_call};
-use sa_check_choice::{Built, Context, Expected, Typed, View, first_iter};
-use sa_check_program::BOOL;
-use sa_core::ExprCore;
-use sa_tree::{FrontFault, NoMemory, Op, Pos, Rule};
+use sa_check_choice::{BodyOutput, CheckContext, CheckTables, CheckedExpr, Expected, first_iter};
+use sa_instantiate::BOOL;
+use sa_typed::TypedExpr;
 use sqlite_items::Boxed;
 use std::alloc::Global;
 
 /// The feature that an operator calls.
-pub(crate) fn called_name(op: Op) -> &'static [u8] {
+pub(crate) fn called_name(op: Operator) -> &'static [u8] {
     match op {
-        Op::Plus => b"plus",
-        Op::Minus => b"minus",
-        Op::Times => b"times",
-        Op::Div => b"div",
-        Op::Pow => b"pow",
-        Op::Mod => b"mod",
-        Op::Lt => b"is_lt",
-        Op::Leq => b"is_leq",
-        Op::Gt => b"is_gt",
-        Op::Geq => b"is_geq",
-        Op::Eq => b"is_eq",
-        Op::Neq => b"is_neq",
-        Op::And => b"and",
-        Op::Or => b"or",
-        Op::Negate => b"negate",
-        Op::Not => b"not",
+        Operator::Plus => b"plus",
+        Operator::Minus => b"minus",
+        Operator::Times => b"times",
+        Operator::Div => b"div",
+        Operator::Pow => b"pow",
+        Operator::Mod => b"mod",
+        Operator::Lt => b"is_lt",
+        Operator::Leq => b"is_leq",
+        Operator::Gt => b"is_gt",
+        Operator::Geq => b"is_geq",
+        Operator::Eq => b"is_eq",
+        Operator::Neq => b"is_neq",
+        Operator::And => b"and",
+        Operator::Or => b"or",
+        Operator::Negate => b"negate",
+        Operator::Not => b"not",
     }
 }
 
 /// `and` and `or`: E33 unless both operands are BOOL.
-pub fn connected(
+pub fn short_circuit(
     alloc: Global,
-    op: Op,
-    one: Typed,
-    other: Typed,
+    op: Operator,
+    one: CheckedExpr,
+    other: CheckedExpr,
     pos: Pos,
-) -> Result<Typed, FrontFault> {
+) -> Result<CheckedExpr, Rejection> {
     if one.ty != Some(BOOL) || other.ty != Some(BOOL) {
         return Err(Rule::WrongType.at(pos).into());
     }
@@ -50,10 +50,10 @@ pub fn connected(
     let one = Boxed::new(alloc, one.core)?;
     let other = Boxed::new(alloc, other.core)?;
     let core = match op {
-        Op::Or => ExprCore::Or(one, other),
-        _ => ExprCore::And(one, other),
+        Operator::Or => TypedExpr::Or(one, other),
+        _ => TypedExpr::And(one, other),
     };
-    Ok(Typed {
+    Ok(CheckedExpr {
         core,
         ty: Some(BOOL),
         iter,
@@ -62,13 +62,13 @@ pub fn connected(
 
 /// `-` and `~`: a call on the operand.
 pub fn unary(
-    context: Context<'_>,
-    built: &mut Built,
-    op: Op,
+    context: CheckContext<'_>,
+    built: &mut BodyOutput,
+    op: Operator,
     of: Receiver,
     pos: Pos,
     expected: Expected,
-) -> Result<Typed, FrontFault> {
+) -> Result<CheckedExpr, Rejection> {
     let form = Call {
         on: of,
         name: called_name(op),
@@ -80,13 +80,13 @@ pub fn unary(
 
 /// `e[..]` and `[..]`: a call of `aget`.
 pub fn index(
-    context: Context<'_>,
-    built: &mut Built,
+    context: CheckContext<'_>,
+    built: &mut BodyOutput,
     of: Receiver,
     places: Vec<Synthesised>,
     pos: Pos,
     expected: Expected,
-) -> Result<Typed, FrontFault> {
+) -> Result<CheckedExpr, Rejection> {
     let args = values(context.view.alloc, places)?;
     let form = Call {
         on: of,
@@ -108,8 +108,8 @@ fn values(alloc: Global, list: Vec<Synthesised>) -> Result<Vec<SynthesisedArg>, 
 
 /// An operator of two operands, which stands at `pos`.
 #[derive(Clone, Copy)]
-pub struct Operation {
-    pub op: Op,
+pub struct OperatorCall {
+    pub op: Operator,
     /// The position of the left operand.
     pub left: Pos,
     pub pos: Pos,
@@ -118,14 +118,14 @@ pub struct Operation {
 /// An operator of two operands that isn't `and` or `or`. E41 where what is called on is contextual, and the refusals of the
 /// call.
 pub fn binary(
-    context: Context<'_>,
-    built: &mut Built,
-    operation: Operation,
+    context: CheckContext<'_>,
+    built: &mut BodyOutput,
+    operation: OperatorCall,
     one: Receiver,
     other: Synthesised,
     expected: Expected,
-) -> Result<Typed, FrontFault> {
-    let Operation {
+) -> Result<CheckedExpr, Rejection> {
+    let OperatorCall {
         op,
         left: _left,
         pos,
@@ -136,8 +136,8 @@ pub fn binary(
         let form = Call::with_value(context.view.alloc, one, name, other, pos)?;
         return typed_call(context, built, form, expected);
     }
-    if op == Op::Gt {
-        return swapped(context.view, built, operation, one, other, expected);
+    if op == Operator::Gt {
+        return reversed(context.view, built, operation, one, other, expected);
     }
     let opposite = opposite(context, built, operation, one, other)?;
     negated(context, built, opposite, pos, expected)
@@ -145,30 +145,33 @@ pub fn binary(
 
 /// The comparison whose opposite `<=`, `>=` or `/=` means.
 fn opposite(
-    context: Context<'_>,
-    built: &mut Built,
-    operation: Operation,
+    context: CheckContext<'_>,
+    built: &mut BodyOutput,
+    operation: OperatorCall,
     one: Receiver,
     other: Synthesised,
-) -> Result<Typed, FrontFault> {
+) -> Result<CheckedExpr, Rejection> {
     let name = match operation.op {
-        Op::Leq => {
-            return swapped(context.view, built, operation, one, other, Expected::Value);
+        Operator::Leq => {
+            return reversed(context.view, built, operation, one, other, Expected::Value);
         }
-        Op::Geq => called_name(Op::Lt),
-        _ => called_name(Op::Eq),
+        Operator::Geq => called_name(Operator::Lt),
+        _ => called_name(Operator::Eq),
     };
     let form = Call::with_value(context.view.alloc, one, name, other, operation.pos)?;
     typed_call(context, built, form, Expected::Value)
 }
 
 /// Whether an operator means another call where the class of its left operand has no feature for it.
-fn is_derived(op: Op) -> bool {
-    matches!(op, Op::Leq | Op::Gt | Op::Geq | Op::Neq)
+fn is_derived(op: Operator) -> bool {
+    matches!(
+        op,
+        Operator::Leq | Operator::Gt | Operator::Geq | Operator::Neq
+    )
 }
 
 /// Whether the class of a type has a feature or a signature with a name, seen or not.
-fn has_feature(view: &View<'_>, of: u32, name: &[u8]) -> bool {
+fn has_feature(view: &CheckTables<'_>, of: u32, name: &[u8]) -> bool {
     if view.program.is_abstract(of) {
         return !view.signatures.named(of, name).is_empty();
     }
@@ -177,18 +180,18 @@ fn has_feature(view: &View<'_>, of: u32, name: &[u8]) -> bool {
 
 /// The call of `not` on a comparison: E33 unless this gives BOOL.
 fn negated(
-    context: Context<'_>,
-    built: &mut Built,
-    compared: Typed,
+    context: CheckContext<'_>,
+    built: &mut BodyOutput,
+    compared: CheckedExpr,
     pos: Pos,
     expected: Expected,
-) -> Result<Typed, FrontFault> {
+) -> Result<CheckedExpr, Rejection> {
     if compared.ty != Some(BOOL) {
         return Err(Rule::WrongType.at(pos).into());
     }
     let form = Call {
         on: Receiver::Value(compared, built.sites.len()),
-        name: called_name(Op::Not),
+        name: called_name(Operator::Not),
         args: Vec::new(context.view.alloc),
         pos,
     };

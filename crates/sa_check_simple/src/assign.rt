@@ -1,19 +1,19 @@
 //! Assignments: to a variable, to an attribute of an immutable object, by a call, or to an element.
 
-use crate::draft::Draft;
+use crate::body_state::BodyState;
 use crate::leave::leave_assigned;
-use crate::value::fitting;
+use crate::value::check_assignable;
+use sa_ast::{ClassKind, Expr, ExprReceiver, FeatureBody, Name, Pos, Rejection, Rule, held};
 use sa_check_expr::{
-    Built, Call, Context, Expected, LeavingCall, Receiver, SynthesisedArg, Variable, View, operand,
-    position, synthesised, typed, typed_call, variable_named, written,
+    BodyOutput, Call, CheckContext, CheckTables, Expected, LeavingCall, Receiver, SynthesisedArg,
+    Variable, operand, position, synthesise, type_expr, typed_call, variable_named, written_type,
 };
-use sa_core::StmtCore;
-use sa_tree::{Expr, FrontFault, Kind, Name, Part, Pos, Recv, Rule, held};
+use sa_typed::TypedStmt;
 use sqlite_items::Boxed;
 
 /// An assignment by name: what is assigned, and the position of the sign.
 #[derive(Clone, Copy)]
-struct Assigned<'e> {
+struct Assignment<'e> {
     name: &'e Name,
     value: &'e Expr,
     pos: Pos,
@@ -21,16 +21,16 @@ struct Assigned<'e> {
 
 /// `target := value`, at the position of its sign.
 pub(crate) fn assign(
-    view: &View<'_>,
-    draft: &Draft,
-    built: &mut Built,
+    view: &CheckTables<'_>,
+    draft: &BodyState,
+    built: &mut BodyOutput,
     target: &Expr,
     value: &Expr,
     pos: Pos,
-) -> Result<StmtCore, FrontFault> {
+) -> Result<TypedStmt, Rejection> {
     match target {
         Expr::Call(on, name, args, _) if args.is_empty() => {
-            assign_name(view, draft, built, on, Assigned { name, value, pos })
+            assign_name(view, draft, built, on, Assignment { name, value, pos })
         }
         Expr::Index(of, places, _) => {
             let on = indexed(view, draft, built, of)?;
@@ -38,8 +38,8 @@ pub(crate) fn assign(
             assign_element(view.at(&draft.place), built, on, args, pos)
         }
         _ => {
-            let _target = synthesised(view.at(&draft.place), built, target)?;
-            let _value = synthesised(view.at(&draft.place), built, value)?;
+            let _target = synthesise(view.at(&draft.place), built, target)?;
+            let _value = synthesise(view.at(&draft.place), built, value)?;
             Err(Rule::NotAssignable.at(pos).into())
         }
     }
@@ -47,11 +47,11 @@ pub(crate) fn assign(
 
 /// What an index is made on.
 fn indexed(
-    view: &View<'_>,
-    draft: &Draft,
-    built: &mut Built,
+    view: &CheckTables<'_>,
+    draft: &BodyState,
+    built: &mut BodyOutput,
     of: &Option<Boxed<Expr>>,
-) -> Result<Receiver, FrontFault> {
+) -> Result<Receiver, Rejection> {
     match of {
         None => Ok(Receiver::Own),
         Some(of) => operand(view.at(&draft.place), built, of.get()),
@@ -60,22 +60,22 @@ fn indexed(
 
 /// `x := e`, `r.f := e` or `C::f := e`.
 fn assign_name(
-    view: &View<'_>,
-    draft: &Draft,
-    built: &mut Built,
-    on: &Recv,
-    assigned: Assigned<'_>,
-) -> Result<StmtCore, FrontFault> {
+    view: &CheckTables<'_>,
+    draft: &BodyState,
+    built: &mut BodyOutput,
+    on: &ExprReceiver,
+    assigned: Assignment<'_>,
+) -> Result<TypedStmt, Rejection> {
     match on {
-        Recv::Implied => assign_implied(view, draft, built, assigned),
-        Recv::Of(of) => {
+        ExprReceiver::Implied => assign_implied(view, draft, built, assigned),
+        ExprReceiver::Of(of) => {
             let of = of.get();
             let on = operand(view.at(&draft.place), built, of)?;
             let changed = variable_named(&draft.place, of);
             assign_feature(view, draft, built, on, changed, assigned)
         }
-        Recv::OfClass(ty) => {
-            let on = Receiver::Class(held(written(view, ty))?);
+        ExprReceiver::OfClass(ty) => {
+            let on = Receiver::Class(held(written_type(view, ty))?);
             assign_feature(view, draft, built, on, None, assigned)
         }
     }
@@ -83,13 +83,13 @@ fn assign_name(
 
 /// `x := e`: a variable, what leaves a loop, or else a call on self.
 fn assign_implied(
-    view: &View<'_>,
-    draft: &Draft,
-    built: &mut Built,
-    assigned: Assigned<'_>,
-) -> Result<StmtCore, FrontFault> {
-    let Assigned { name, value, pos } = assigned;
-    if let Some(variable) = draft.seen(name) {
+    view: &CheckTables<'_>,
+    draft: &BodyState,
+    built: &mut BodyOutput,
+    assigned: Assignment<'_>,
+) -> Result<TypedStmt, Rejection> {
+    let Assignment { name, value, pos } = assigned;
+    if let Some(variable) = draft.lookup(name) {
         return assign_variable(view, draft, built, variable, value, pos);
     }
     if let Some(call) = LeavingCall::of_name(name) {
@@ -100,49 +100,49 @@ fn assign_implied(
 
 /// `x := e` for a variable: it isn't narrowed, and the value goes to its type.
 fn assign_variable(
-    view: &View<'_>,
-    draft: &Draft,
-    built: &mut Built,
+    view: &CheckTables<'_>,
+    draft: &BodyState,
+    built: &mut BodyOutput,
     variable: Variable,
     value: &Expr,
     pos: Pos,
-) -> Result<StmtCore, FrontFault> {
+) -> Result<TypedStmt, Rejection> {
     let ty = variable.ty;
-    let made = typed(view.at(&draft.place), built, value, Expected::Type(ty))?;
+    let made = type_expr(view.at(&draft.place), built, value, Expected::Type(ty))?;
     if variable.narrowed {
         return Err(Rule::TypecaseVariable.at(pos).into());
     }
-    let core = fitting(view, built, made, ty, position(value), pos)?;
-    Ok(StmtCore::Let(variable.number, core))
+    let core = check_assignable(view, built, made, ty, position(value), pos)?;
+    Ok(TypedStmt::Assign(variable.number, core))
 }
 
 /// `r.f := e` is the call `r.f(e)`, but for an attribute of an immutable class.
 fn assign_feature(
-    view: &View<'_>,
-    draft: &Draft,
-    built: &mut Built,
+    view: &CheckTables<'_>,
+    draft: &BodyState,
+    built: &mut BodyOutput,
     on: Receiver,
     changed: Option<Variable>,
-    assigned: Assigned<'_>,
-) -> Result<StmtCore, FrontFault> {
-    let Assigned { name, value, pos } = assigned;
-    let made = synthesised(view.at(&draft.place), built, value)?;
+    assigned: Assignment<'_>,
+) -> Result<TypedStmt, Rejection> {
+    let Assignment { name, value, pos } = assigned;
+    let made = synthesise(view.at(&draft.place), built, value)?;
     let form = Call::with_value(view.alloc, on, name.as_slice(), made, pos)?;
     if is_attribute_of_immutable(view, &form.on, name) {
         return assign_changed(view, draft, built, form, changed);
     }
     let done = typed_call(view.at(&draft.place), built, form, Expected::Nothing)?;
-    Ok(StmtCore::Do(done.core))
+    Ok(TypedStmt::ExprStmt(done.core))
 }
 
 /// `r.f := e` for an attribute of an immutable class: it is `r := r.f(e)`, so r is a variable.
 fn assign_changed(
-    view: &View<'_>,
-    draft: &Draft,
-    built: &mut Built,
+    view: &CheckTables<'_>,
+    draft: &BodyState,
+    built: &mut BodyOutput,
     form: Call<'_>,
     changed: Option<Variable>,
-) -> Result<StmtCore, FrontFault> {
+) -> Result<TypedStmt, Rejection> {
     let pos = form.pos;
     let Some(variable) = changed else {
         return Err(Rule::NotAssignable.at(pos).into());
@@ -151,21 +151,21 @@ fn assign_changed(
     if variable.narrowed {
         return Err(Rule::TypecaseVariable.at(pos).into());
     }
-    let core = fitting(view, built, made, variable.ty, pos, pos)?;
-    Ok(StmtCore::Let(variable.number, core))
+    let core = check_assignable(view, built, made, variable.ty, pos, pos)?;
+    Ok(TypedStmt::Assign(variable.number, core))
 }
 
 /// Whether what the call is made on is of an immutable class, and the name that of one of its attributes.
-fn is_attribute_of_immutable(view: &View<'_>, on: &Receiver, name: &Name) -> bool {
+fn is_attribute_of_immutable(view: &CheckTables<'_>, on: &Receiver, name: &Name) -> bool {
     let Some(ty) = type_of_receiver(view, on) else {
         return false;
     };
-    matches!(view.program.kind(ty), Some(Kind::Immutable))
+    matches!(view.program.kind(ty), Some(ClassKind::Immutable))
         && has_attribute(view, ty, view.program.named(ty, name.as_slice()))
 }
 
 /// Whether one of the members of a type at these places is the reader or the writer of an attribute.
-fn has_attribute(view: &View<'_>, ty: u32, places: &[u32]) -> bool {
+fn has_attribute(view: &CheckTables<'_>, ty: u32, places: &[u32]) -> bool {
     for place in places {
         if is_attribute(view, ty, *place) {
             return true;
@@ -175,7 +175,7 @@ fn has_attribute(view: &View<'_>, ty: u32, places: &[u32]) -> bool {
 }
 
 /// The number of the type that a call is made on.
-fn type_of_receiver(view: &View<'_>, on: &Receiver) -> Option<u32> {
+fn type_of_receiver(view: &CheckTables<'_>, on: &Receiver) -> Option<u32> {
     match on {
         Receiver::Own => Some(view.class),
         Receiver::Value(value, _) => value.ty,
@@ -185,40 +185,40 @@ fn type_of_receiver(view: &View<'_>, on: &Receiver) -> Option<u32> {
 }
 
 /// Whether the member of a type is the reader or the writer of an attribute.
-fn is_attribute(view: &View<'_>, ty: u32, place: u32) -> bool {
+fn is_attribute(view: &CheckTables<'_>, ty: u32, place: u32) -> bool {
     let Some(member) = view.program.member(ty, place) else {
         return false;
     };
     match view.program.feature(ty, member.feature) {
         None => false,
-        Some(feature) => matches!(feature.part, Part::Attr),
+        Some(feature) => matches!(feature.part, FeatureBody::Attr),
     }
 }
 
 /// The indices and the value of `r[i] := e`, as arguments.
 fn element_arguments(
-    view: &View<'_>,
-    draft: &Draft,
-    built: &mut Built,
+    view: &CheckTables<'_>,
+    draft: &BodyState,
+    built: &mut BodyOutput,
     places: &[Expr],
     value: &Expr,
-) -> Result<Vec<SynthesisedArg>, FrontFault> {
+) -> Result<Vec<SynthesisedArg>, Rejection> {
     let mut args = Vec::new(view.alloc);
     for e in places {
-        args.push(SynthesisedArg::Value(synthesised(view.at(&draft.place), built, e)?))?;
+        args.push(SynthesisedArg::Value(synthesise(view.at(&draft.place), built, e)?))?;
     }
-    args.push(SynthesisedArg::Value(synthesised(view.at(&draft.place), built, value)?))?;
+    args.push(SynthesisedArg::Value(synthesise(view.at(&draft.place), built, value)?))?;
     Ok(args)
 }
 
 /// `r[i] := e` is the call `r.aset(i, e)`.
 fn assign_element(
-    context: Context<'_>,
-    built: &mut Built,
+    context: CheckContext<'_>,
+    built: &mut BodyOutput,
     on: Receiver,
     args: Vec<SynthesisedArg>,
     pos: Pos,
-) -> Result<StmtCore, FrontFault> {
+) -> Result<TypedStmt, Rejection> {
     let form = Call {
         on,
         name: b"aset",
@@ -226,5 +226,5 @@ fn assign_element(
         pos,
     };
     let done = typed_call(context, built, form, Expected::Nothing)?;
-    Ok(StmtCore::Do(done.core))
+    Ok(TypedStmt::ExprStmt(done.core))
 }

@@ -1,63 +1,63 @@
 //! A typed expression once more: several names with one initialiser have it once each.
 
-use sa_core::{ArgCore, ExprCore};
+use sa_typed::{TypedArg, TypedExpr};
 use sqlite_items::{Boxed, Items};
 use std::alloc::{AllocError, Global};
 
 /// The same expression once more, with the same sites. It fails only where memory runs out.
 #[cycle(copy)]
-pub(crate) fn copy(alloc: Global, e: &ExprCore) -> Result<ExprCore, AllocError> {
+pub(crate) fn copy(alloc: Global, e: &TypedExpr) -> Result<TypedExpr, AllocError> {
     match e {
-        ExprCore::Int(value) => Ok(ExprCore::Int(*value)),
-        ExprCore::Bool(value) => Ok(ExprCore::Bool(*value)),
-        ExprCore::Char(value) => Ok(ExprCore::Char(*value)),
-        ExprCore::Text(text) => Ok(ExprCore::Text(text.copy(alloc)?)),
-        ExprCore::VoidOf(ty) => Ok(ExprCore::VoidOf(*ty)),
-        ExprCore::Me => Ok(ExprCore::Me),
-        ExprCore::Var(number) => Ok(ExprCore::Var(*number)),
-        ExprCore::Exception => Ok(ExprCore::Exception),
-        ExprCore::IsVoid(of) => Ok(ExprCore::IsVoid(boxed(alloc, of)?)),
-        ExprCore::New(ty, pos) => Ok(ExprCore::New(*ty, *pos)),
-        ExprCore::NewArray(ty, of, pos) => Ok(ExprCore::NewArray(*ty, boxed(alloc, of)?, *pos)),
-        ExprCore::Items(ty, list, pos) => {
-            Ok(ExprCore::Items(*ty, exprs(alloc, list.as_slice())?, *pos))
+        TypedExpr::Int(value) => Ok(TypedExpr::Int(*value)),
+        TypedExpr::Bool(value) => Ok(TypedExpr::Bool(*value)),
+        TypedExpr::Char(value) => Ok(TypedExpr::Char(*value)),
+        TypedExpr::Text(text) => Ok(TypedExpr::Text(text.copy(alloc)?)),
+        TypedExpr::VoidValue(ty) => Ok(TypedExpr::VoidValue(*ty)),
+        TypedExpr::SelfRef => Ok(TypedExpr::SelfRef),
+        TypedExpr::Var(number) => Ok(TypedExpr::Var(*number)),
+        TypedExpr::Exception => Ok(TypedExpr::Exception),
+        TypedExpr::IsVoid(of) => Ok(TypedExpr::IsVoid(boxed(alloc, of)?)),
+        TypedExpr::New(ty, pos) => Ok(TypedExpr::New(*ty, *pos)),
+        TypedExpr::NewArray(ty, of, pos) => Ok(TypedExpr::NewArray(*ty, boxed(alloc, of)?, *pos)),
+        TypedExpr::Array(ty, list, pos) => {
+            Ok(TypedExpr::Array(*ty, exprs(alloc, list.as_slice())?, *pos))
         }
-        ExprCore::Call(called, of, list, pos) => {
+        TypedExpr::Call(called, of, list, pos) => {
             let of = boxed(alloc, of)?;
-            Ok(ExprCore::Call(*called, of, args(alloc, list.as_slice())?, *pos))
+            Ok(TypedExpr::Call(*called, of, args(alloc, list.as_slice())?, *pos))
         }
-        ExprCore::IterCall(site, of, list, pos) => {
+        TypedExpr::IterCall(site, of, list, pos) => {
             let of = boxed(alloc, of)?;
-            Ok(ExprCore::IterCall(*site, of, args(alloc, list.as_slice())?, *pos))
+            Ok(TypedExpr::IterCall(*site, of, args(alloc, list.as_slice())?, *pos))
         }
-        ExprCore::Bind(called, of, list, ty, pos) => {
+        TypedExpr::Bind(called, of, list, ty, pos) => {
             let of = boxed(alloc, of)?;
-            Ok(ExprCore::Bind(*called, of, args(alloc, list.as_slice())?, *ty, *pos))
+            Ok(TypedExpr::Bind(*called, of, args(alloc, list.as_slice())?, *ty, *pos))
         }
-        ExprCore::Swapped(target, left, right, pos) => {
+        TypedExpr::Reversed(target, left, right, pos) => {
             let left = boxed(alloc, left)?;
-            Ok(ExprCore::Swapped(*target, left, boxed(alloc, right)?, *pos))
+            Ok(TypedExpr::Reversed(*target, left, boxed(alloc, right)?, *pos))
         }
-        ExprCore::And(left, right) => {
+        TypedExpr::And(left, right) => {
             let left = boxed(alloc, left)?;
-            Ok(ExprCore::And(left, boxed(alloc, right)?))
+            Ok(TypedExpr::And(left, boxed(alloc, right)?))
         }
-        ExprCore::Or(left, right) => {
+        TypedExpr::Or(left, right) => {
             let left = boxed(alloc, left)?;
-            Ok(ExprCore::Or(left, boxed(alloc, right)?))
+            Ok(TypedExpr::Or(left, boxed(alloc, right)?))
         }
-        ExprCore::Widen(ty, of, pos) => Ok(ExprCore::Widen(*ty, boxed(alloc, of)?, *pos)),
+        TypedExpr::Box(ty, of, pos) => Ok(TypedExpr::Box(*ty, boxed(alloc, of)?, *pos)),
     }
 }
 
 #[cycle(copy)]
-fn boxed(alloc: Global, e: &Boxed<ExprCore>) -> Result<Boxed<ExprCore>, AllocError> {
+fn boxed(alloc: Global, e: &Boxed<TypedExpr>) -> Result<Boxed<TypedExpr>, AllocError> {
     let copied = copy(alloc, e.get())?;
     Ok(Boxed::new(alloc, copied)?)
 }
 
 #[cycle(copy)]
-fn exprs(alloc: Global, list: &[ExprCore]) -> Result<Items<ExprCore>, AllocError> {
+fn exprs(alloc: Global, list: &[TypedExpr]) -> Result<Items<TypedExpr>, AllocError> {
     let mut copies = Items::new(alloc);
     for e in list {
         copies.push(copy(alloc, e)?)?;
@@ -66,7 +66,7 @@ fn exprs(alloc: Global, list: &[ExprCore]) -> Result<Items<ExprCore>, AllocError
 }
 
 #[cycle(copy)]
-fn args(alloc: Global, list: &[ArgCore]) -> Result<Items<ArgCore>, AllocError> {
+fn args(alloc: Global, list: &[TypedArg]) -> Result<Items<TypedArg>, AllocError> {
     let mut copies = Items::new(alloc);
     for arg in list {
         copies.push(argument(alloc, arg)?)?;
@@ -75,10 +75,10 @@ fn args(alloc: Global, list: &[ArgCore]) -> Result<Items<ArgCore>, AllocError> {
 }
 
 #[cycle(copy)]
-fn argument(alloc: Global, arg: &ArgCore) -> Result<ArgCore, AllocError> {
+fn argument(alloc: Global, arg: &TypedArg) -> Result<TypedArg, AllocError> {
     match arg {
-        ArgCore::Value(mode, e) => Ok(ArgCore::Value(*mode, copy(alloc, e)?)),
-        ArgCore::Variable(mode, number) => Ok(ArgCore::Variable(*mode, *number)),
-        ArgCore::Left => Ok(ArgCore::Left),
+        TypedArg::Value(mode, e) => Ok(TypedArg::Value(*mode, copy(alloc, e)?)),
+        TypedArg::Variable(mode, number) => Ok(TypedArg::Variable(*mode, *number)),
+        TypedArg::Open => Ok(TypedArg::Open),
     }
 }

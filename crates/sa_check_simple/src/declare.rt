@@ -1,11 +1,11 @@
 //! Declarations: `x, y:T`, `x, y:T := e` and `x ::= e`.
 
+use crate::body_state::BodyState;
 use crate::copy::copy;
-use crate::draft::Draft;
-use crate::value::{fitting, untyped_value};
-use sa_check_expr::{Built, Expected, View, position, typed, written};
-use sa_core::{ExprCore, StmtCore, expr_nodes};
-use sa_tree::{Expr, FrontFault, Local, NoMemory, Pos, Ty, held};
+use crate::value::{check_assignable, untyped_value};
+use sa_ast::{Expr, Local, NoMemory, Pos, Rejection, Ty, held};
+use sa_check_expr::{BodyOutput, CheckTables, Expected, position, type_expr, written_type};
+use sa_typed::{TypedExpr, TypedStmt, expr_nodes};
 use sqlite_items::Items;
 use std::alloc::Global;
 
@@ -23,31 +23,31 @@ pub(crate) struct Declaration<'s> {
 
 /// Names that are declared, with the position of the first one, at which the declaration is refused.
 #[derive(Clone, Copy)]
-struct Declared<'s> {
+struct DeclaredNames<'s> {
     names: &'s [Local],
     form: Pos,
 }
 
 /// Variables, by their numbers, with the value of one initialiser.
 #[derive(Drop)]
-struct Initialised {
+struct InitialValue {
     numbers: Vec<u32>,
-    core: ExprCore,
+    core: TypedExpr,
 }
 
 /// A declaration, put at the end of the list: a statement for each of its names.
 pub(crate) fn declare(
-    view: &View<'_>,
-    draft: &mut Draft,
-    built: &mut Built,
+    view: &CheckTables<'_>,
+    draft: &mut BodyState,
+    built: &mut BodyOutput,
     declaration: Declaration<'_>,
-    cores: &mut Items<StmtCore>,
-) -> Result<(), FrontFault> {
+    cores: &mut Items<TypedStmt>,
+) -> Result<(), Rejection> {
     let Declaration { names, ty, value } = declaration;
     let Some(first) = names.first() else {
         return Ok(());
     };
-    let declared = Declared {
+    let declared = DeclaredNames {
         names,
         form: first.pos,
     };
@@ -62,48 +62,48 @@ pub(crate) fn declare(
 
 /// `x, y:T`: each is void of its type, each time that the statement is done.
 fn declare_void(
-    view: &View<'_>,
-    draft: &mut Draft,
+    view: &CheckTables<'_>,
+    draft: &mut BodyState,
     names: &[Local],
     ty: &Ty,
-    cores: &mut Items<StmtCore>,
-) -> Result<(), FrontFault> {
-    let ty = held(written(view, ty))?;
+    cores: &mut Items<TypedStmt>,
+) -> Result<(), Rejection> {
+    let ty = held(written_type(view, ty))?;
     for local in names {
         let number = draft.declare(view.alloc, local, ty)?;
-        cores.push(StmtCore::Let(number, ExprCore::VoidOf(ty)))?;
+        cores.push(TypedStmt::Assign(number, TypedExpr::VoidValue(ty)))?;
     }
     Ok(())
 }
 
 /// `x, y:T := e`. The names aren't seen in the initialiser, which stands once for each of them.
 fn declare_typed(
-    view: &View<'_>,
-    draft: &mut Draft,
-    built: &mut Built,
-    declared: Declared<'_>,
+    view: &CheckTables<'_>,
+    draft: &mut BodyState,
+    built: &mut BodyOutput,
+    declared: DeclaredNames<'_>,
     ty: &Ty,
     e: &Expr,
-) -> Result<Initialised, FrontFault> {
-    let ty = held(written(view, ty))?;
-    let value = typed((&*view).at(&draft.place), built, e, Expected::Type(ty))?;
+) -> Result<InitialValue, Rejection> {
+    let ty = held(written_type(view, ty))?;
+    let value = type_expr((&*view).at(&draft.place), built, e, Expected::Type(ty))?;
     let numbers = declare_names(view.alloc, draft, declared.names, ty)?;
-    let core = fitting(view, built, value, ty, position(e), declared.form)?;
-    Ok(Initialised { numbers, core })
+    let core = check_assignable(view, built, value, ty, position(e), declared.form)?;
+    Ok(InitialValue { numbers, core })
 }
 
 /// `x ::= e`: the variable has the type of the initialiser.
 fn declare_by_value(
-    view: &View<'_>,
-    draft: &mut Draft,
-    built: &mut Built,
-    declared: Declared<'_>,
+    view: &CheckTables<'_>,
+    draft: &mut BodyState,
+    built: &mut BodyOutput,
+    declared: DeclaredNames<'_>,
     e: &Expr,
-) -> Result<Initialised, FrontFault> {
+) -> Result<InitialValue, Rejection> {
     let value = untyped_value((&*view).at(&draft.place), built, e, declared.form)?;
     let ty = held(value.ty)?;
     let numbers = declare_names(view.alloc, draft, declared.names, ty)?;
-    Ok(Initialised {
+    Ok(InitialValue {
         numbers,
         core: value.core,
     })
@@ -112,10 +112,10 @@ fn declare_by_value(
 /// Declares the names as variables of a type, and gives their numbers.
 fn declare_names(
     alloc: Global,
-    draft: &mut Draft,
+    draft: &mut BodyState,
     names: &[Local],
     ty: u32,
-) -> Result<Vec<u32>, FrontFault> {
+) -> Result<Vec<u32>, Rejection> {
     let mut numbers = Vec::new(alloc);
     for local in names {
         numbers.push(draft.declare(alloc, local, ty)?)?;
@@ -126,11 +126,11 @@ fn declare_names(
 /// Sets each of the variables to the value of one initialiser, which is evaluated for each of them.
 fn let_each(
     alloc: Global,
-    draft: &mut Draft,
-    initialised: Initialised,
-    cores: &mut Items<StmtCore>,
-) -> Result<(), FrontFault> {
-    let Initialised { numbers, core } = initialised;
+    draft: &mut BodyState,
+    initialised: InitialValue,
+    cores: &mut Items<TypedStmt>,
+) -> Result<(), Rejection> {
+    let InitialValue { numbers, core } = initialised;
     let mut numbers = numbers;
     let Some(last) = numbers.pop() else {
         return Ok(());
@@ -138,23 +138,23 @@ fn let_each(
     if !numbers.is_empty() {
         let_copies(alloc, draft, numbers.as_slice(), &core, cores)?;
     }
-    cores.push(StmtCore::Let(last, core))?;
+    cores.push(TypedStmt::Assign(last, core))?;
     Ok(())
 }
 
 /// Sets each of the variables to a copy of the initialiser.
 fn let_copies(
     alloc: Global,
-    draft: &mut Draft,
+    draft: &mut BodyState,
     numbers: &[u32],
-    core: &ExprCore,
-    cores: &mut Items<StmtCore>,
+    core: &TypedExpr,
+    cores: &mut Items<TypedStmt>,
 ) -> Result<(), NoMemory> {
     let nodes = expr_nodes(core);
     for number in numbers {
         if draft.copied <= MOST_NODES {
             draft.copied = draft.copied.saturating_add(nodes);
-            cores.push(StmtCore::Let(*number, copy(alloc, core)?))?;
+            cores.push(TypedStmt::Assign(*number, copy(alloc, core)?))?;
         }
     }
     Ok(())

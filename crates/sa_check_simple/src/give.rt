@@ -1,52 +1,54 @@
 //! `return` and `yield`, which give a value back.
 
-use crate::draft::{Draft, FeatureKind};
+use crate::body_state::{BodyState, FeatureKind};
 use crate::leave::in_iter;
-use crate::value::fitting;
-use sa_check_expr::{Built, Expected, Typed, View, position, synthesised, typed};
-use sa_core::{ExprCore, StmtCore};
-use sa_tree::{Expr, FrontFault, Pos, Rule};
+use crate::value::check_assignable;
+use sa_ast::{Expr, Pos, Rejection, Rule};
+use sa_check_expr::{
+    BodyOutput, CheckTables, CheckedExpr, Expected, position, synthesise, type_expr,
+};
+use sa_typed::{TypedExpr, TypedStmt};
 
 /// `return` and `return e`, in a routine alone.
 pub(crate) fn return_value(
-    view: &View<'_>,
-    draft: &Draft,
-    built: &mut Built,
+    view: &CheckTables<'_>,
+    draft: &BodyState,
+    built: &mut BodyOutput,
     value: &Option<Expr>,
     pos: Pos,
-) -> Result<StmtCore, FrontFault> {
+) -> Result<TypedStmt, Rejection> {
     let Some(e) = value else {
         in_routine(draft, pos)?;
         gives_none(draft, pos)?;
-        return Ok(StmtCore::Return(None));
+        return Ok(TypedStmt::Return(None));
     };
     let made = result_value(view, draft, built, e)?;
     in_routine(draft, pos)?;
     let core = given_back(view, draft, built, made, position(e), pos)?;
-    Ok(StmtCore::Return(Some(core)))
+    Ok(TypedStmt::Return(Some(core)))
 }
 
 /// `yield` and `yield e`, in an iter alone, and in no protect.
 pub(crate) fn yield_value(
-    view: &View<'_>,
-    draft: &Draft,
-    built: &mut Built,
+    view: &CheckTables<'_>,
+    draft: &BodyState,
+    built: &mut BodyOutput,
     value: &Option<Expr>,
     pos: Pos,
-) -> Result<StmtCore, FrontFault> {
+) -> Result<TypedStmt, Rejection> {
     let Some(e) = value else {
         in_iter(draft, pos)?;
         gives_none(draft, pos)?;
-        return Ok(StmtCore::Yield(None));
+        return Ok(TypedStmt::Yield(None));
     };
     let made = result_value(view, draft, built, e)?;
     in_iter(draft, pos)?;
     let core = given_back(view, draft, built, made, position(e), pos)?;
-    Ok(StmtCore::Yield(Some(core)))
+    Ok(TypedStmt::Yield(Some(core)))
 }
 
 /// Whether a form may stand here that a routine alone has.
-fn in_routine(draft: &Draft, pos: Pos) -> Result<(), FrontFault> {
+fn in_routine(draft: &BodyState, pos: Pos) -> Result<(), Rejection> {
     if draft.kind == FeatureKind::Iter {
         return Err(Rule::OutOfPlace.at(pos).into());
     }
@@ -54,7 +56,7 @@ fn in_routine(draft: &Draft, pos: Pos) -> Result<(), FrontFault> {
 }
 
 /// Whether the feature has no result, where none is given back.
-fn gives_none(draft: &Draft, pos: Pos) -> Result<(), FrontFault> {
+fn gives_none(draft: &BodyState, pos: Pos) -> Result<(), Rejection> {
     if draft.result.is_some() {
         return Err(Rule::WrongType.at(pos).into());
     }
@@ -64,33 +66,33 @@ fn gives_none(draft: &Draft, pos: Pos) -> Result<(), FrontFault> {
 /// The expression that is given back, whose place expects the type of the feature's result. Where the feature has none, it
 /// expects no type, and what is typed isn't kept: the form is refused after it.
 fn result_value(
-    view: &View<'_>,
-    draft: &Draft,
-    built: &mut Built,
+    view: &CheckTables<'_>,
+    draft: &BodyState,
+    built: &mut BodyOutput,
     e: &Expr,
-) -> Result<Option<Typed>, FrontFault> {
+) -> Result<Option<CheckedExpr>, Rejection> {
     let Some(ty) = draft.result else {
-        let _e = synthesised(view.at(&draft.place), built, e)?;
+        let _e = synthesise(view.at(&draft.place), built, e)?;
         return Ok(None);
     };
-    let made = typed(view.at(&draft.place), built, e, Expected::Type(ty))?;
+    let made = type_expr(view.at(&draft.place), built, e, Expected::Type(ty))?;
     Ok(Some(made))
 }
 
 /// The value of the expression at a position, which has a subtype of the type of the feature's result.
 fn given_back(
-    view: &View<'_>,
-    draft: &Draft,
-    built: &Built,
-    made: Option<Typed>,
+    view: &CheckTables<'_>,
+    draft: &BodyState,
+    built: &BodyOutput,
+    made: Option<CheckedExpr>,
     at: Pos,
     form: Pos,
-) -> Result<ExprCore, FrontFault> {
+) -> Result<TypedExpr, Rejection> {
     let Some(made) = made else {
         return Err(Rule::WrongType.at(form).into());
     };
     let Some(ty) = draft.result else {
         return Err(Rule::WrongType.at(form).into());
     };
-    fitting(view, built, made, ty, at, form)
+    check_assignable(view, built, made, ty, at, form)
 }

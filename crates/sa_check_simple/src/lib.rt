@@ -2,15 +2,15 @@
 #![tactic(auto)]
 
 mod assign;
+mod body_state;
 mod copy;
 mod declare;
-mod draft;
 mod give;
 mod leave;
 mod simple;
 mod value;
 
+pub use body_state::{BodyState, FeatureKind, SavedLoop, SavedProtect};
 pub use declare::MOST_NODES;
-pub use draft::{Draft, FeatureKind, OpenLoop, OpenProtect};
 pub use simple::simple_statement;
-pub use value::{entry, fitting, test, with_type};
+pub use value::{check_assignable, entry, test, with_type};

@@ -1,28 +1,28 @@
 //! `if`, with an entry for each `elsif`.
 
 use crate::statement::statements;
-use sa_check_expr::{Built, View};
-use sa_check_program::BOOL;
-use sa_check_simple::{Draft, entry, test};
-use sa_core::{StmtCore, TestCore};
-use sa_tree::{Arm, FrontFault, Pos, Rule};
+use sa_ast::{BranchArm, Pos, Rejection, Rule};
+use sa_check_expr::{BodyOutput, CheckTables};
+use sa_check_simple::{BodyState, entry, test};
+use sa_instantiate::BOOL;
+use sa_typed::{TypedBranch, TypedStmt};
 use sqlite_items::Items;
 
 /// The entries of an `if`, and whether all their tests are BOOLs.
 #[derive(Drop)]
 pub(crate) struct Entries {
-    list: Items<TestCore>,
+    list: Items<TypedBranch>,
     are_bools: bool,
 }
 
 /// The entries of an `if`.
 #[cycle(statement)]
 pub(crate) fn if_arms(
-    view: &View<'_>,
-    draft: &mut Draft,
-    built: &mut Built,
-    arms: &[Arm],
-) -> Result<Entries, FrontFault> {
+    view: &CheckTables<'_>,
+    draft: &mut BodyState,
+    built: &mut BodyOutput,
+    arms: &[BranchArm],
+) -> Result<Entries, Rejection> {
     let mut list = Items::new(view.alloc);
     let mut are_bools = true;
     for arm in arms {
@@ -35,12 +35,12 @@ pub(crate) fn if_arms(
 /// An entry of an `if`, put at the end of the list. It gives the number of its test's type.
 #[cycle(statement)]
 fn if_arm(
-    view: &View<'_>,
-    draft: &mut Draft,
-    built: &mut Built,
-    arm: &Arm,
-    list: &mut Items<TestCore>,
-) -> Result<Option<u32>, FrontFault> {
+    view: &CheckTables<'_>,
+    draft: &mut BodyState,
+    built: &mut BodyOutput,
+    arm: &BranchArm,
+    list: &mut Items<TypedBranch>,
+) -> Result<Option<u32>, Rejection> {
     let test = test((&*view).at(&draft.place), built, &arm.test)?;
     let ty = test.ty;
     let body = statements(view, draft, built, arm.body.as_slice())?;
@@ -49,15 +49,15 @@ fn if_arm(
 }
 
 /// The `if` of its entries, put at the end of the list: E33 unless all their tests are BOOLs.
-pub(crate) fn if_core(
+pub(crate) fn if_stmt(
     entries: Entries,
-    rest: Items<StmtCore>,
+    rest: Items<TypedStmt>,
     pos: Pos,
-    cores: &mut Items<StmtCore>,
-) -> Result<(), FrontFault> {
+    cores: &mut Items<TypedStmt>,
+) -> Result<(), Rejection> {
     if !entries.are_bools {
         return Err(Rule::WrongType.at(pos).into());
     }
-    cores.push(StmtCore::If(entries.list, rest))?;
+    cores.push(TypedStmt::If(entries.list, rest))?;
     Ok(())
 }

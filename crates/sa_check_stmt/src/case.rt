@@ -1,14 +1,14 @@
 //! `case`: the value is evaluated once, into a variable without a name, and compared by `is_eq` in order.
 
 use crate::statement::statements;
+use sa_ast::{CaseArm, Expr, FaultKind, NoMemory, Pos, Rejection, held};
 use sa_check_expr::{
-    Built, Call, Context, Expected, Receiver, Synthesised, Typed, View, synthesised,
-    synthesised_all, typed_call,
+    BodyOutput, Call, CheckContext, CheckTables, CheckedExpr, Expected, Receiver, Synthesised,
+    synthesise, synthesise_all, typed_call,
 };
-use sa_check_program::OB;
-use sa_check_simple::{Draft, with_type};
-use sa_core::{ExprCore, StmtCore, TestCore};
-use sa_tree::{CaseArm, Expr, FaultKind, FrontFault, NoMemory, Pos, held};
+use sa_check_simple::{BodyState, with_type};
+use sa_instantiate::OB;
+use sa_typed::{TypedBranch, TypedExpr, TypedStmt};
 use sqlite_items::Items;
 use std::alloc::Global;
 
@@ -31,18 +31,18 @@ pub(crate) struct Subject {
 #[derive(Drop)]
 pub(crate) struct TypedArm {
     values: Vec<Synthesised>,
-    body: Items<StmtCore>,
+    body: Items<TypedStmt>,
 }
 
 /// The value of a `case`, whose variable is made before its arms are typed.
 pub(crate) fn case_subject(
-    view: &View<'_>,
-    draft: &mut Draft,
-    built: &mut Built,
+    view: &CheckTables<'_>,
+    draft: &mut BodyState,
+    built: &mut BodyOutput,
     tested: &Expr,
     pos: Pos,
-) -> Result<Subject, FrontFault> {
-    let value = synthesised((&*view).at(&draft.place), built, tested)?;
+) -> Result<Subject, Rejection> {
+    let value = synthesise((&*view).at(&draft.place), built, tested)?;
     let ty = value_type(&value)?;
     let number = draft.variable(ty)?;
     let variable = CaseVariable { ty, number, pos };
@@ -60,11 +60,11 @@ fn value_type(value: &Synthesised) -> Result<u32, NoMemory> {
 /// The arms of a `case`.
 #[cycle(statement)]
 pub(crate) fn case_arms(
-    view: &View<'_>,
-    draft: &mut Draft,
-    built: &mut Built,
+    view: &CheckTables<'_>,
+    draft: &mut BodyState,
+    built: &mut BodyOutput,
     arms: &[CaseArm],
-) -> Result<Vec<TypedArm>, FrontFault> {
+) -> Result<Vec<TypedArm>, Rejection> {
     let mut typed_arms = Vec::new(view.alloc);
     for arm in arms {
         typed_arms.push(case_arm(view, draft, built, arm)?)?;
@@ -75,55 +75,55 @@ pub(crate) fn case_arms(
 /// An arm of a `case`.
 #[cycle(statement)]
 fn case_arm(
-    view: &View<'_>,
-    draft: &mut Draft,
-    built: &mut Built,
+    view: &CheckTables<'_>,
+    draft: &mut BodyState,
+    built: &mut BodyOutput,
     arm: &CaseArm,
-) -> Result<TypedArm, FrontFault> {
-    let values = synthesised_all((&*view).at(&draft.place), built, arm.values.as_slice())?;
+) -> Result<TypedArm, Rejection> {
+    let values = synthesise_all((&*view).at(&draft.place), built, arm.values.as_slice())?;
     let body = statements(view, draft, built, arm.body.as_slice())?;
     Ok(TypedArm { values, body })
 }
 
 /// The `case` of its parts, put at the end of the list.
-pub(crate) fn case_cores(
-    context: Context<'_>,
-    built: &mut Built,
+pub(crate) fn case_stmts(
+    context: CheckContext<'_>,
+    built: &mut BodyOutput,
     subject: Subject,
     arms: Vec<TypedArm>,
-    rest: Option<Items<StmtCore>>,
-    cores: &mut Items<StmtCore>,
-) -> Result<(), FrontFault> {
+    rest: Option<Items<TypedStmt>>,
+    cores: &mut Items<TypedStmt>,
+) -> Result<(), Rejection> {
     let Subject { value, variable } = subject;
     let value = with_type(value, variable.pos)?;
     let tests = tested_arms(context, built, variable, arms)?;
     let rest = otherwise(context.view.alloc, rest, variable.pos)?;
-    cores.push(StmtCore::Let(variable.number, value.core))?;
-    cores.push(StmtCore::If(tests, rest))?;
+    cores.push(TypedStmt::Assign(variable.number, value.core))?;
+    cores.push(TypedStmt::If(tests, rest))?;
     Ok(())
 }
 
 /// What is done where no value is equal.
 fn otherwise(
     alloc: Global,
-    rest: Option<Items<StmtCore>>,
+    rest: Option<Items<TypedStmt>>,
     pos: Pos,
-) -> Result<Items<StmtCore>, FrontFault> {
+) -> Result<Items<TypedStmt>, Rejection> {
     if let Some(rest) = rest {
         return Ok(rest);
     }
     let mut stop = Items::new(alloc);
-    stop.push(StmtCore::Stop(FaultKind::NoBranch, pos))?;
+    stop.push(TypedStmt::Fault(FaultKind::NoBranch, pos))?;
     Ok(stop)
 }
 
 /// The arms with their tests.
 fn tested_arms(
-    context: Context<'_>,
-    built: &mut Built,
+    context: CheckContext<'_>,
+    built: &mut BodyOutput,
     variable: CaseVariable,
     arms: Vec<TypedArm>,
-) -> Result<Items<TestCore>, FrontFault> {
+) -> Result<Items<TypedBranch>, Rejection> {
     let mut entries = Items::new(context.view.alloc);
     for arm in arms {
         entries.push(tested_arm(context, built, variable, arm)?)?;
@@ -133,23 +133,23 @@ fn tested_arms(
 
 /// An arm with its tests.
 fn tested_arm(
-    context: Context<'_>,
-    built: &mut Built,
+    context: CheckContext<'_>,
+    built: &mut BodyOutput,
     variable: CaseVariable,
     arm: TypedArm,
-) -> Result<TestCore, FrontFault> {
+) -> Result<TypedBranch, Rejection> {
     let TypedArm { values, body } = arm;
     let tests = comparisons(context, built, variable, values)?;
-    Ok(TestCore { tests, body })
+    Ok(TypedBranch { tests, body })
 }
 
 /// The tests of an arm.
 fn comparisons(
-    context: Context<'_>,
-    built: &mut Built,
+    context: CheckContext<'_>,
+    built: &mut BodyOutput,
     variable: CaseVariable,
     values: Vec<Synthesised>,
-) -> Result<Items<ExprCore>, FrontFault> {
+) -> Result<Items<TypedExpr>, Rejection> {
     let mut tests = Items::new(context.view.alloc);
     for value in values {
         tests.push(comparison(context, built, variable, value)?)?;
@@ -159,11 +159,11 @@ fn comparisons(
 
 /// The call of `is_eq` on the variable with a value: E33 unless it gives a BOOL.
 fn comparison(
-    context: Context<'_>,
-    built: &mut Built,
+    context: CheckContext<'_>,
+    built: &mut BodyOutput,
     variable: CaseVariable,
     value: Synthesised,
-) -> Result<ExprCore, FrontFault> {
+) -> Result<TypedExpr, Rejection> {
     let on = variable_receiver(variable, built.sites.len());
     let pos = variable.pos;
     let form = Call::with_value(context.view.alloc, on, b"is_eq", value, pos)?;
@@ -173,8 +173,8 @@ fn comparison(
 
 /// The variable, as what a call is made on, before which there are so many sites.
 fn variable_receiver(variable: CaseVariable, sites: usize) -> Receiver {
-    let value = Typed {
-        core: ExprCore::Var(variable.number),
+    let value = CheckedExpr {
+        core: TypedExpr::Var(variable.number),
         ty: Some(variable.ty),
         iter: None,
     };

@@ -1,10 +1,14 @@
 //! Features: a routine or an iter with its body, and a shared with its initialiser.
 
 use crate::statement::statements;
-use sa_check_expr::{Built, Expected, Place, View, position, typed, written};
-use sa_check_simple::{Draft, FeatureKind, fitting};
-use sa_core::{ExprCore, FeatureCore, SharedCore, StmtCore};
-use sa_tree::{Expr, FaultKind, Feature, Formal, FrontFault, Mode, Part, Pos, Rule, Stmt, held};
+use sa_ast::{
+    Expr, FaultKind, Feature, FeatureBody, FormalParam, Mode, Pos, Rejection, Rule, Stmt, held,
+};
+use sa_check_expr::{
+    BodyOutput, CheckScope, CheckTables, Expected, position, type_expr, written_type,
+};
+use sa_check_simple::{BodyState, FeatureKind, check_assignable};
+use sa_typed::{TypedExpr, TypedFeature, TypedShared, TypedStmt};
 use sqlite_items::Items;
 use std::mem;
 
@@ -20,13 +24,17 @@ const MOST_OUT: usize = 16;
 ///
 /// The first refusal by the rules of statements and expressions; E43 for equal arguments before those, and E54 and E53 for
 /// too many `out` arguments and too many variables after them; `NoMemory`.
-pub fn body(view: &View<'_>, built: &mut Built, f: &Feature) -> Result<FeatureCore, FrontFault> {
+pub fn body(
+    view: &CheckTables<'_>,
+    built: &mut BodyOutput,
+    f: &Feature,
+) -> Result<TypedFeature, Rejection> {
     let kind = FeatureKind::of_name(&f.name.name);
-    let mut draft = Draft::new(view.alloc, kind, result_of(view, f)?);
+    let mut draft = BodyState::new(view.alloc, kind, result_of(view, f)?);
     let modes = formals(view, &mut draft, f.formals.as_slice())?;
     let body = whole_body(view, &mut draft, built, f)?;
     within_limits(&draft, modes.as_slice(), f.name.pos)?;
-    Ok(FeatureCore {
+    Ok(TypedFeature {
         class: view.class,
         iter: kind == FeatureKind::Iter,
         modes,
@@ -40,14 +48,14 @@ pub fn body(view: &View<'_>, built: &mut Built, f: &Feature) -> Result<FeatureCo
 
 /// The statements of the feature, and behind them a stop where a routine with a result reaches its end.
 fn whole_body(
-    view: &View<'_>,
-    draft: &mut Draft,
-    built: &mut Built,
+    view: &CheckTables<'_>,
+    draft: &mut BodyState,
+    built: &mut BodyOutput,
     f: &Feature,
-) -> Result<Items<StmtCore>, FrontFault> {
+) -> Result<Items<TypedStmt>, Rejection> {
     let mut body = statements(view, draft, built, body_of(f))?;
     if draft.result.is_some() && draft.kind == FeatureKind::Routine {
-        body.push(StmtCore::Stop(FaultKind::NoReturn, f.name.pos))?;
+        body.push(TypedStmt::Fault(FaultKind::NoReturn, f.name.pos))?;
     }
     Ok(body)
 }
@@ -59,67 +67,67 @@ fn whole_body(
 /// The first refusal by the rules of expressions; E33 at the name of the shared unless the initialiser has a subtype of its
 /// type; `NoMemory`.
 pub fn shared_body(
-    view: &View<'_>,
-    built: &mut Built,
+    view: &CheckTables<'_>,
+    built: &mut BodyOutput,
     f: &Feature,
-) -> Result<SharedCore, FrontFault> {
+) -> Result<TypedShared, Rejection> {
     let ty = held(result_of(view, f)?)?;
     let start = start(view, built, ty, f)?;
     let class = view.class;
-    Ok(SharedCore { ty, class, start })
+    Ok(TypedShared { ty, class, start })
 }
 
 /// The initialiser of a shared, where it has one.
 fn start(
-    view: &View<'_>,
-    built: &mut Built,
+    view: &CheckTables<'_>,
+    built: &mut BodyOutput,
     ty: u32,
     f: &Feature,
-) -> Result<Option<ExprCore>, FrontFault> {
+) -> Result<Option<TypedExpr>, Rejection> {
     match &f.part {
-        Part::Shared(Some(e)) => Ok(Some(initialiser(view, built, ty, e, f.name.pos)?)),
+        FeatureBody::Shared(Some(e)) => Ok(Some(initialiser(view, built, ty, e, f.name.pos)?)),
         _ => Ok(None),
     }
 }
 
 /// An initialiser, whose place expects the type of the shared.
 fn initialiser(
-    view: &View<'_>,
-    built: &mut Built,
+    view: &CheckTables<'_>,
+    built: &mut BodyOutput,
     ty: u32,
     e: &Expr,
     name: Pos,
-) -> Result<ExprCore, FrontFault> {
-    let outside = Place::new(view.alloc);
-    let value = typed((&*view).at(&outside), built, e, Expected::Type(ty))?;
-    fitting(view, built, value, ty, position(e), name)
+) -> Result<TypedExpr, Rejection> {
+    let outside = CheckScope::new(view.alloc);
+    let value = type_expr((&*view).at(&outside), built, e, Expected::Type(ty))?;
+    check_assignable(view, built, value, ty, position(e), name)
 }
 
 /// The number of the type of the feature's result.
-fn result_of(view: &View<'_>, f: &Feature) -> Result<Option<u32>, FrontFault> {
+fn result_of(view: &CheckTables<'_>, f: &Feature) -> Result<Option<u32>, Rejection> {
     match &f.result {
         None => Ok(None),
-        Some(ty) => Ok(Some(held(written(view, ty))?)),
+        Some(ty) => Ok(Some(held(written_type(view, ty))?)),
     }
 }
 
 /// The statements of the feature.
 fn body_of(f: &Feature) -> &[Stmt] {
     match &f.part {
-        Part::Routine(body) => body.get().as_slice(),
+        FeatureBody::Routine(body) => body.get().as_slice(),
         _ => &[],
     }
 }
 
 /// Declares the arguments as the first variables, and gives their modes.
 fn formals(
-    view: &View<'_>,
-    draft: &mut Draft,
-    formals: &[Formal],
-) -> Result<Items<Mode>, FrontFault> {
+    view: &CheckTables<'_>,
+    draft: &mut BodyState,
+    formals: &[FormalParam],
+) -> Result<Items<Mode>, Rejection> {
     let mut modes = Items::new(view.alloc);
     for formal in formals {
-        let ty = held(written(view, &formal.ty))?;
+        let ty = held(written_type(view, &formal.ty))?;
         draft.declare(view.alloc, &formal.local, ty)?;
         modes.push(formal.mode)?;
     }
@@ -127,7 +135,7 @@ fn formals(
 }
 
 /// Whether the feature has no more `out` arguments and variables than it may have.
-fn within_limits(draft: &Draft, modes: &[Mode], name: Pos) -> Result<(), FrontFault> {
+fn within_limits(draft: &BodyState, modes: &[Mode], name: Pos) -> Result<(), Rejection> {
     if out_arguments(modes) > MOST_OUT {
         return Err(Rule::TooManyOutArguments.at(name).into());
     }

@@ -1,19 +1,19 @@
 //! `typecase`: in each branch the tested variable is another one, of a narrower type.
 
 use crate::statement::statements;
-use sa_check_expr::{Built, Variable, View, is_sub, written};
-use sa_check_simple::Draft;
-use sa_core::ArmCore;
-use sa_tree::{FrontFault, Name, NoMemory, Pos, Rule, TypeArm, held};
+use sa_ast::{Name, NoMemory, Pos, Rejection, Rule, TypeArm, held};
+use sa_check_expr::{BodyOutput, CheckTables, Variable, is_sub, written_type};
+use sa_check_simple::BodyState;
+use sa_typed::TypedArm;
 use sqlite_items::Items;
 
 /// The variable that a `typecase` tests: E42 where the name is that of none.
 pub(crate) fn tested_variable(
-    draft: &Draft,
+    draft: &BodyState,
     name: &Name,
     pos: Pos,
-) -> Result<Variable, FrontFault> {
-    match draft.seen(name) {
+) -> Result<Variable, Rejection> {
+    match draft.lookup(name) {
         None => Err(Rule::TypecaseVariable.at(pos).into()),
         Some(tested) => Ok(tested),
     }
@@ -22,13 +22,13 @@ pub(crate) fn tested_variable(
 /// The branches of a `typecase`.
 #[cycle(statement)]
 pub(crate) fn typecase_arms(
-    view: &View<'_>,
-    draft: &mut Draft,
-    built: &mut Built,
+    view: &CheckTables<'_>,
+    draft: &mut BodyState,
+    built: &mut BodyOutput,
     name: &Name,
     tested: Variable,
     arms: &[TypeArm],
-) -> Result<Items<ArmCore>, FrontFault> {
+) -> Result<Items<TypedArm>, Rejection> {
     let mut branches = Items::new(view.alloc);
     for arm in arms {
         branches.push(typecase_arm(view, draft, built, name, tested, arm)?)?;
@@ -39,25 +39,25 @@ pub(crate) fn typecase_arms(
 /// A branch of a `typecase`.
 #[cycle(statement)]
 fn typecase_arm(
-    view: &View<'_>,
-    draft: &mut Draft,
-    built: &mut Built,
+    view: &CheckTables<'_>,
+    draft: &mut BodyState,
+    built: &mut BodyOutput,
     name: &Name,
     tested: Variable,
     arm: &TypeArm,
-) -> Result<ArmCore, FrontFault> {
-    let ty = held(written(view, &arm.ty))?;
+) -> Result<TypedArm, Rejection> {
+    let ty = held(written_type(view, &arm.ty))?;
     let var = narrow(view, draft, built, name, tested, ty)?;
     let body = statements(view, draft, built, arm.body.as_slice())?;
     draft.replace(name, tested);
-    Ok(ArmCore { ty, var, body })
+    Ok(TypedArm { ty, var, body })
 }
 
 /// Lets the name stand for a new variable, and gives its number.
 fn narrow(
-    view: &View<'_>,
-    draft: &mut Draft,
-    built: &Built,
+    view: &CheckTables<'_>,
+    draft: &mut BodyState,
+    built: &BodyOutput,
     name: &Name,
     tested: Variable,
     branch: u32,
@@ -75,7 +75,7 @@ fn narrow(
 
 /// The type of the variable in a branch: that of the tested variable where it is a subtype of the branch's type, else the
 /// branch's type.
-fn narrow_type(view: &View<'_>, built: &Built, tested: u32, branch: u32) -> u32 {
+fn narrow_type(view: &CheckTables<'_>, built: &BodyOutput, tested: u32, branch: u32) -> u32 {
     if is_sub(view, built, tested, branch) {
         tested
     } else {

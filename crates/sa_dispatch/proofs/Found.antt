@@ -20,12 +20,12 @@ place_at xs x i rising below e =
     rw at (cond-true _ _ _ (lt-ltb i (length xs) below))
 
 no_place : (xs : List ℕ) (x i : ℕ) → ((k : ℕ) → k < i → get_or xs k 0 < x) → ((k : ℕ) → i ≤ k → k < length xs → x < get_or xs k 0) → position (λ t. t == x) xs ≡ None
-no_place xs x i before behind =
+no_place xs x i before following =
     let at : position_or_len (λ t. t == x) xs ≡ length xs =
     position_or_len_is (λ t. t == x) xs (length xs) 0 (omega arith)
     (λ k h. elim (cases_lt k i) [
       | inl e ↦ let less : get_or xs k 0 < x = before k e in ne_eqb (get_or xs k 0) x (omega arith)
-      | inr e ↦ let more : x < get_or xs k 0 = behind k e h in ne_eqb (get_or xs k 0) x (omega arith)
+      | inr e ↦ let more : x < get_or xs k 0 = following k e h in ne_eqb (get_or xs k 0) x (omega arith)
     ])
     (λ h. absurd (omega arith)) in
     rw at (cond-false _ _ _ (le-ltb (length xs) (length xs) (omega arith)))

@@ -8,6 +8,6 @@ mod search;
 mod signature;
 mod table;
 
-pub use build::rows;
-pub use signature::Span;
-pub use table::Rows;
+pub use build::implementation_table;
+pub use signature::PackedRange;
+pub use table::ImplementationTable;

@@ -1,8 +1,8 @@
 //! The parts of the table of functions. The part of a signature has one place for each number from its least type to its greatest.
 //! The places of numbers that are no types of it stay free, and a part whose types lie far apart is laid into those of others.
 
-use crate::signature::{Span, sum};
-use sa_tree::NoMemory;
+use crate::signature::{PackedRange, sum};
+use sa_ast::NoMemory;
 use std::alloc::Global;
 
 /// How many types a signature has at most that gets no part where they lie far apart.
@@ -41,7 +41,7 @@ impl Packing {
     /// # Errors
     ///
     /// `NoMemory`, also where 32 bits don't hold the number of places.
-    pub(crate) fn part(&mut self, types: &[u32]) -> Result<Option<Span>, NoMemory> {
+    pub(crate) fn part(&mut self, types: &[u32]) -> Result<Option<PackedRange>, NoMemory> {
         let Some(range) = range_of(types) else {
             return Ok(None);
         };
@@ -51,7 +51,7 @@ impl Packing {
         let first = u32::try_from(self.beginning(types, range)).map_err(|_| NoMemory)?;
         sum(first, range.length as usize)?;
         self.take(types, range, first as usize)?;
-        Ok(Some(Span {
+        Ok(Some(PackedRange {
             first,
             least: range.least,
             length: range.length,

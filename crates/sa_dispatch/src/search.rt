@@ -5,8 +5,8 @@ ghost use Rattle.std.specs.List.{position};
 ghost use Rattle.sa_dispatch.specs.Rising.{IsRising};
 ghost use Rattle.sa_dispatch.specs.Implementations.{types_of};
 
-use sa_core::ImplCore;
-use sa_tree::NoMemory;
+use sa_ast::NoMemory;
+use sa_typed::TypedImplementation;
 use sqlite_items::Items;
 use std::alloc::Global;
 
@@ -15,7 +15,10 @@ use std::alloc::Global;
 /// # Errors
 ///
 /// `NoMemory`, also where the types don't rise, which the checker sees to.
-pub fn implemented(alloc: Global, implementations: &[ImplCore]) -> Result<Items<u32>, NoMemory>
+pub fn implemented(
+    alloc: Global,
+    implementations: &[TypedImplementation],
+) -> Result<Items<u32>, NoMemory>
     ensures types { IfOk result (λ types. types ≡ types_of implementations.now) }
     ensures rising { IfOk result (λ types. IsRising types) }
 {

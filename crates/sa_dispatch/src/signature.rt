@@ -6,13 +6,13 @@ ghost use Rattle.std.specs.Option.{option_map};
 ghost use Rattle.sa_dispatch.specs.Rising.{IsRising};
 
 use crate::search::place_of;
-use sa_tree::NoMemory;
+use sa_ast::NoMemory;
 use sqlite_items::Items;
 
 /// The part of the table of functions that a signature has: one place for each number from its least type to its greatest. Those
 /// of its own types are places of no other signature.
 #[derive(Clone, Copy, Debug, PartialEq, Eq)]
-pub struct Span {
+pub struct PackedRange {
     /// The place in the table that the least type has.
     pub first: u32,
     /// The least type that implements the signature.
@@ -23,18 +23,18 @@ pub struct Span {
 
 /// A signature.
 #[derive(Drop)]
-pub struct Signature {
+pub struct DispatchTable {
     /// The types that implement it, rising.
     pub types: Items<u32>,
     /// The place of its first implementation in the list of all.
     pub first: u32,
     /// Its part of the table, where it has one.
-    pub span: Option<Span>,
+    pub span: Option<PackedRange>,
 }
 
-impl Signature {
+impl DispatchTable {
     /// The place of the implementation for a type in the list of all: none where the type doesn't implement it.
-    pub fn row(&self, ty: u32) -> Option<u32>
+    pub fn implementation(&self, ty: u32) -> Option<u32>
         requires rising { IsRising self.now.types }
         requires fits { self.now.first + length self.now.types < 2 ^ 32 }
         ensures { result ≡ option_map (λ place. self.now.first + place) (position (λ t. t == ty) self.now.types) }
@@ -45,7 +45,7 @@ impl Signature {
 }
 
 /// The place behind those of a span.
-pub fn end_of(span: Option<Span>) -> u32 {
+pub fn end_of(span: Option<PackedRange>) -> u32 {
     match span {
         Some(span) => span.first.saturating_add(span.length),
         None => 0,

@@ -2,11 +2,11 @@
 
 ghost use Rattle.std.specs.Prelude.{◌≡◌, [], ◌∷◌, ◌++◌, ◌<◌, length, slice_get, unwrap_or, OnOk};
 ghost use Rattle.std.specs.Option.{SomeIff};
-ghost use Rattle.sa_dispatch.specs.Implementations.{first_of, row_of};
+ghost use Rattle.sa_dispatch.specs.Implementations.{first_of, implementation_of};
 ghost use Rattle.sa_dispatch.specs.Rising.{IsRising};
 
-use crate::signature::{Signature, Span, end_of, sum};
-use sa_tree::NoMemory;
+use crate::signature::{DispatchTable, PackedRange, end_of, sum};
+use sa_ast::NoMemory;
 use sqlite_items::Items;
 use std::alloc::Global;
 use std::marker::Model;
@@ -16,31 +16,31 @@ use std::marker::Model;
 /// A signature has a part of the table of functions, its span, but for one with few types that lie far apart. No call of these
 /// takes memory.
 #[derive(Drop)]
-pub struct Rows {
-    signatures: Items<Signature>,
+pub struct ImplementationTable {
+    signatures: Items<DispatchTable>,
     /// How many implementations they have together.
     count: u32,
     /// How many places the table has that their spans are parts of.
     size: u32,
 }
 
-impl Model for Rows {
+impl Model for ImplementationTable {
     ghost use Rattle.std.specs.Prelude.{List, ℕ};
-    ghost use Rattle.sa_dispatch.specs.Layout.{IsKept, shown};
+    ghost use Rattle.sa_dispatch.specs.Layout.{IsConsistent, implementing_types};
 
     ghost Value = { List (List ℕ) };
 
-    ghost view = { λ rows. shown rows.signatures };
+    ghost view = { λ rows. implementing_types rows.signatures };
 
-    ghost invariant = { λ rows. IsKept rows.signatures rows.count };
+    ghost invariant = { λ rows. IsConsistent rows.signatures rows.count };
 }
 
-impl Rows {
+impl ImplementationTable {
     /// No signature.
-    pub(crate) fn new(alloc: Global) -> Rows
+    pub(crate) fn new(alloc: Global) -> ImplementationTable
         ensures { result ≡ [] }
     {
-        Rows {
+        ImplementationTable {
             signatures: Items::new(alloc),
             count: 0,
             size: 0,
@@ -52,13 +52,17 @@ impl Rows {
     /// # Errors
     ///
     /// `NoMemory`, also where 32 bits don't hold the number of signatures or of implementations.
-    pub(crate) fn add(&mut self, types: Items<u32>, span: Option<Span>) -> Result<(), NoMemory>
+    pub(crate) fn add(
+        &mut self,
+        types: Items<u32>,
+        span: Option<PackedRange>,
+    ) -> Result<(), NoMemory>
         requires { IsRising types }
         ensures { OnOk result (self.new ≡ self.old ++ types ∷ []) }
     {
         let count = sum(self.count, types.len())?;
         sum(1, self.signatures.len())?;
-        let signature = Signature {
+        let signature = DispatchTable {
             types,
             first: self.count,
             span,
@@ -71,18 +75,18 @@ impl Rows {
 
     /// The place of a signature's implementation for a type in the list of the implementations of all signatures: none where
     /// there is no such signature or the type doesn't implement it.
-    pub fn row(&self, sig: u32, ty: u32) -> Option<u32>
-        ensures { result ≡ row_of self.now sig ty }
+    pub fn implementation(&self, sig: u32, ty: u32) -> Option<u32>
+        ensures { result ≡ implementation_of self.now sig ty }
     {
         let signature = self.signatures.get(sig as usize)?;
-        signature.row(ty)
+        signature.implementation(ty)
     }
 
     /// The place of a signature's implementation for a type in the table of functions: none where the signature has no span,
     /// or the type doesn't implement it.
     pub fn place(&self, sig: u32, ty: u32) -> Option<u32> {
         let span = self.span(sig)?;
-        self.row(sig, ty)?;
+        self.implementation(sig, ty)?;
         span.first.checked_add(ty.checked_sub(span.least)?)
     }
 
@@ -92,7 +96,7 @@ impl Rows {
     }
 
     /// The part of the table that a signature has, if it has one.
-    pub fn span(&self, sig: u32) -> Option<Span> {
+    pub fn span(&self, sig: u32) -> Option<PackedRange> {
         self.signatures.get(sig as usize)?.span
     }
 

@@ -2,7 +2,7 @@
 use Rattle.std.proofs.Common.{◌≡◌, ℕ, ◌+◌, ◌<◌, ◌||◌, Bool, true, false, List, [], ◌∷◌, length, get_or, drop, refl, add-one, drop-cons}
 use Rattle.std.proofs.Math.Seq.{drop-length}
 use Rattle.std.specs.Prelude.{if◌then◌else◌, ◌==◌}
-use Rattle.sa_flat.specs.declared.body.FlatBlock.{FlatBlock}
+use Rattle.sa_cfg.specs.declared.body.BasicBlock.{BasicBlock}
 use Rattle.wa_syntax.specs.declared.instr.Instr.{Instr}
 use Rattle.wa_syntax.specs.declared.module.Func.{Func}
 use Rattle.wa_syntax.specs.declared.opcode.TheConstants.{UNREACHABLE, NOP, RETURN, DROP, SELECT, MEMORY_SIZE, MEMORY_GROW}
@@ -16,7 +16,7 @@ holds_table-drop code i instr h e = rw (add-one, drop-cons code i instr, ← e)
 pub have_table-drop : (funcs : List Func) (i : ℕ) (func : Func) → i < length funcs → func ≡ get_or funcs i func → have_table (drop i funcs) ≡ (has_table func || have_table (drop (i + 1) funcs))
 have_table-drop funcs i func h e = rw (add-one, drop-cons funcs i func, ← e)
 
-pub are_resumed-drop : (blocks : List FlatBlock) (i : ℕ) (block : FlatBlock) → i < length blocks → block ≡ get_or blocks i block → are_resumed (drop i blocks) ≡ (is_resumed block.exit || are_resumed (drop (i + 1) blocks))
+pub are_resumed-drop : (blocks : List BasicBlock) (i : ℕ) (block : BasicBlock) → i < length blocks → block ≡ get_or blocks i block → are_resumed (drop i blocks) ≡ (is_resumed block.exit || are_resumed (drop (i + 1) blocks))
 are_resumed-drop blocks i block h e = rw (add-one, drop-cons blocks i block, ← e)
 
 -- ---- an instruction that is its opcode alone

@@ -2,10 +2,10 @@
 -- doesn't go on behind a suspension.
 use Rattle.std.specs.Prelude.{◌≡◌, ◌≤◌, Bool, true, false, ◌||◌, List, [], ◌∷◌, ◌++◌, length, is_some}
 use Rattle.std.specs.List.{FoldsTo}
-use Rattle.sa_flat.specs.declared.body.FlatBlock.{FlatBlock}
-use Rattle.sa_flat.specs.declared.body.FlatBody.{FlatBody}
-use Rattle.sa_flat.specs.declared.step.FlatExit.{FlatExit}
-use Rattle.sa_flat.specs.declared.step.FlatExit.TheVariants.{Suspend}
+use Rattle.sa_cfg.specs.declared.body.BasicBlock.{BasicBlock}
+use Rattle.sa_cfg.specs.declared.body.CfgBody.{CfgBody}
+use Rattle.sa_cfg.specs.declared.operation.Terminator.{Terminator}
+use Rattle.sa_cfg.specs.declared.operation.Terminator.TheVariants.{Suspend}
 use Rattle.wa_syntax.specs.declared.module.Func.{Func}
 use Rattle.wa_syntax.specs.Instructions.{Instruction, Block, Loop, If, BrTable, Sequence, nothing, ◌then◌, sequence}
 
@@ -38,25 +38,25 @@ have_table (func ∷ rest) = has_table func || have_table rest
 -- ---- bodies
 
 -- the body goes on in a block behind this exit once it is resumed
-abbrev pub is_resumed : FlatExit → Bool
+abbrev pub is_resumed : Terminator → Bool
 is_resumed (Suspend value resume) = is_some resume
 is_resumed _ = false
 
 -- it does behind one of some blocks
-abbrev pub are_resumed : List FlatBlock → Bool
+abbrev pub are_resumed : List BasicBlock → Bool
 are_resumed [] = false
 are_resumed (block ∷ rest) = is_resumed block.exit || are_resumed rest
 
 -- the body of a routine, or of an iter that never yields
-abbrev pub IsPlain : FlatBody → Type 0
+abbrev pub IsPlain : CfgBody → Type 0
 IsPlain body = are_resumed body.blocks ≡ false
 
 -- The shape of so few blocks nests at most 300 deep, as deep as shapes do.
-abbrev pub HasFewBlocks : FlatBody → Type 0
+abbrev pub HasFewBlocks : CfgBody → Type 0
 HasFewBlocks body = length body.blocks ≤ 150
 
 -- the function of a body
-abbrev pub IsFunctionOf : FlatBody → Func → Type 0
+abbrev pub IsFunctionOf : CfgBody → Func → Type 0
 IsFunctionOf body func = IsPlain body → HasFewBlocks body → HoldsNoTable func
 
 -- ---- modules
@@ -68,14 +68,14 @@ pub record IsAdded (IsRight : Func → Type 0) (before after : List Func) : Type
   pub all : after ≡ before ++ func ∷ []
 
 -- a body's function is added, or none where the body isn't reached
-pub data IsMade (before : List Func) (body : FlatBody) (after : List Func) : Type 0 where
-  made : IsAdded (IsFunctionOf body) before after → IsMade before body after
-  left_out : after ≡ before → IsMade before body after
+pub data IsEmitted (before : List Func) (body : CfgBody) (after : List Func) : Type 0 where
+  made : IsAdded (IsFunctionOf body) before after → IsEmitted before body after
+  left_out : after ≡ before → IsEmitted before body after
 
 -- the functions of a module: some of the runtime, at most one for each body, in the order of the bodies, and `main`
-pub record AreFunctionsOf (bodies : List FlatBody) (funcs : List Func) : Type 0 where
+pub record AreFunctionsOf (bodies : List CfgBody) (funcs : List Func) : Type 0 where
   pub runtime : List Func
   pub before_main : List Func
   pub runtime_holds_none : have_table runtime ≡ false
-  pub of_bodies : FoldsTo IsMade runtime bodies before_main
+  pub of_bodies : FoldsTo IsEmitted runtime bodies before_main
   pub main : IsAdded HoldsNoTable before_main funcs

@@ -3,8 +3,8 @@
 
 use crate::steps::Writer;
 use crate::sums::{number, sum};
-use crate::superblock::{add_repeated_target, add_target};
-use sa_emit_value::{Around, held};
+use crate::superblock::{emit_repeated_target, emit_target};
+use sa_templates::{EmitContext, held};
 use sqlite_items::Items;
 use std::alloc::Global;
 use wa_syntax::{Instr, NoMemory, opcode};
@@ -17,36 +17,36 @@ const BITS: u32 = 3;
 
 /// The body whose dispatch targets are placed, and what is around a place of it.
 #[derive(Clone, Copy)]
-pub(crate) struct Dispatch<'a> {
-    pub around: Around<'a>,
+pub(crate) struct BlockDispatch<'a> {
+    pub around: EmitContext<'a>,
     /// The block of each dispatch target.
     pub targets: &'a [u32],
     /// For each dispatch target whether its superblock jumps to it.
     pub repeats: &'a [bool],
 }
 
-impl<'a> Dispatch<'a> {
+impl<'a> BlockDispatch<'a> {
     /// So many blocks further in.
-    fn further_in(&self, blocks: u32) -> Result<Dispatch<'a>, NoMemory> {
+    fn further_in(&self, blocks: u32) -> Result<BlockDispatch<'a>, NoMemory> {
         let nesting = self.around.nesting.further_in(blocks)?;
-        let around = Around {
+        let around = EmitContext {
             nesting,
             ..self.around
         };
-        Ok(Dispatch { around, ..*self })
+        Ok(BlockDispatch { around, ..*self })
     }
 }
 
 /// Adds the code of a body whose dispatch targets are jumped to: a loop around the choice between them.
-pub(crate) fn add_loop(
+pub(crate) fn emit_loop(
     alloc: Global,
     code: &mut Items<Instr>,
     writer: &mut Writer<'_>,
-    dispatch: &Dispatch<'_>,
+    dispatch: &BlockDispatch<'_>,
 ) -> Result<(), NoMemory> {
     let mut body = Items::new(alloc);
     let level = level_of(dispatch.targets.len());
-    add_choice(alloc, &mut body, writer, &dispatch.further_in(1)?, 0, level)?;
+    emit_dispatch(alloc, &mut body, writer, &dispatch.further_in(1)?, 0, level)?;
     code.push(Instr::loop_of(alloc, None, body)?)?;
     code.push(Instr::Plain(opcode::UNREACHABLE))?;
     Ok(())
@@ -63,27 +63,27 @@ fn level_of(targets: usize) -> u32 {
 
 /// Adds the choice between the dispatch targets from `first` on, as many as there are and up to `8 * 2^level`, and their code.
 #[cycle(choice)]
-fn add_choice(
+fn emit_dispatch(
     alloc: Global,
     code: &mut Items<Instr>,
     writer: &mut Writer<'_>,
-    dispatch: &Dispatch<'_>,
+    dispatch: &BlockDispatch<'_>,
     first: u32,
     level: u32,
 ) -> Result<(), NoMemory> {
     if level == 0 {
-        return add_table(alloc, code, writer, dispatch, first);
+        return emit_table(alloc, code, writer, dispatch, first);
     }
     let middle = sum(first, half_of(level)?)?;
     if middle as usize >= dispatch.targets.len() {
-        return add_choice(alloc, code, writer, dispatch, first, level - 1);
+        return emit_dispatch(alloc, code, writer, dispatch, first, level - 1);
     }
     let inner = dispatch.further_in(1)?;
     let mut low = Items::new(alloc);
-    add_choice(alloc, &mut low, writer, &inner, first, level - 1)?;
+    emit_dispatch(alloc, &mut low, writer, &inner, first, level - 1)?;
     let mut high = Items::new(alloc);
-    add_choice(alloc, &mut high, writer, &inner, middle, level - 1)?;
-    add_is_below(code, &dispatch.around, middle)?;
+    emit_dispatch(alloc, &mut high, writer, &inner, middle, level - 1)?;
+    emit_is_less(code, &dispatch.around, middle)?;
     code.push(Instr::if_of(alloc, None, low, high)?)?;
     Ok(())
 }
@@ -95,7 +95,11 @@ fn half_of(level: u32) -> Result<u32, NoMemory> {
 }
 
 /// Adds whether the dispatch target in the local for it is before this one.
-fn add_is_below(code: &mut Items<Instr>, around: &Around<'_>, target: u32) -> Result<(), NoMemory> {
+fn emit_is_less(
+    code: &mut Items<Instr>,
+    around: &EmitContext<'_>,
+    target: u32,
+) -> Result<(), NoMemory> {
     code.push(Instr::LocalGet(around.block()))?;
     code.push(Instr::I32Const(target))?;
     code.push(Instr::Plain(opcode::I32_LT_U))?;
@@ -103,54 +107,54 @@ fn add_is_below(code: &mut Items<Instr>, around: &Around<'_>, target: u32) -> Re
 }
 
 /// Adds the table between the dispatch targets from `first` on, up to eight, and their code.
-fn add_table(
+fn emit_table(
     alloc: Global,
     code: &mut Items<Instr>,
     writer: &mut Writer<'_>,
-    dispatch: &Dispatch<'_>,
+    dispatch: &BlockDispatch<'_>,
     first: u32,
 ) -> Result<(), NoMemory> {
     let last = last_behind(dispatch.targets.len(), first)?;
     if last == 0 {
-        return add_superblock(alloc, code, writer, dispatch, first);
+        return emit_superblock(alloc, code, writer, dispatch, first);
     }
     let mut before = choosing(alloc, &dispatch.around, first, last)?;
     for place in 0..last {
         let inner = dispatch.further_in(last - place)?;
-        let mut behind = Items::new(alloc);
-        behind.push(Instr::block_of(alloc, None, before)?)?;
-        add_superblock(alloc, &mut behind, writer, &inner, sum(first, place)?)?;
-        before = behind;
+        let mut following = Items::new(alloc);
+        following.push(Instr::block_of(alloc, None, before)?)?;
+        emit_superblock(alloc, &mut following, writer, &inner, sum(first, place)?)?;
+        before = following;
     }
     code.push(Instr::block_of(alloc, None, before)?)?;
-    add_superblock(alloc, code, writer, dispatch, sum(first, last)?)
+    emit_superblock(alloc, code, writer, dispatch, sum(first, last)?)
 }
 
 /// Adds the superblock of a dispatch target.
-fn add_superblock(
+fn emit_superblock(
     alloc: Global,
     code: &mut Items<Instr>,
     writer: &mut Writer<'_>,
-    dispatch: &Dispatch<'_>,
+    dispatch: &BlockDispatch<'_>,
     target: u32,
 ) -> Result<(), NoMemory> {
     let block = *held(dispatch.targets.get(target as usize))?;
     if *held(dispatch.repeats.get(target as usize))? {
-        return add_repeated_target(alloc, code, writer, dispatch.around, block);
+        return emit_repeated_target(alloc, code, writer, dispatch.around, block);
     }
-    add_target(alloc, code, writer, dispatch.around, block)
+    emit_target(alloc, code, writer, dispatch.around, block)
 }
 
 /// How many dispatch targets behind `first` stand in the table that begins with it.
 fn last_behind(targets: usize, first: u32) -> Result<u32, NoMemory> {
-    let behind = number(targets)?.saturating_sub(first).saturating_sub(1);
-    Ok(behind.min(FAN_OUT - 1))
+    let following = number(targets)?.saturating_sub(first).saturating_sub(1);
+    Ok(following.min(FAN_OUT - 1))
 }
 
 /// The code that goes to the end of the block that the dispatch target in the local for it stands behind, one of those from `first` on.
 fn choosing(
     alloc: Global,
-    around: &Around<'_>,
+    around: &EmitContext<'_>,
     first: u32,
     last: u32,
 ) -> Result<Items<Instr>, NoMemory> {

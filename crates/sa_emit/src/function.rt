@@ -3,21 +3,23 @@
 ghost use Rattle.std.specs.Prelude.{IfOk};
 ghost use Rattle.sa_emit.specs.Tables.{IsFunctionOf};
 
-use crate::dispatch::{Dispatch, add_loop};
+use crate::dispatch::{BlockDispatch, emit_loop};
 use crate::pool::has_frames;
 use crate::predecessors::predecessors_of;
-use crate::resuming::add_before_choice;
+use crate::resuming::emit_before_dispatch;
 use crate::steps::Writer;
-use crate::structured::add_shaped;
+use crate::structured::emit_structured;
 use crate::sums::held_graph;
 use crate::targets::targets_of;
-use crate::trial::tried;
-use sa_emit_step::add_suspension;
-use sa_emit_value::{Around, Nesting, Program, Role, add_prologue, locals_of, parameters_of};
-use sa_flat::FlatBody;
-use sa_operands::{Given, Keeping};
+use crate::verifier::tried;
+use sa_cfg::CfgBody;
+use sa_emit_step::emit_suspension;
 use sa_runtime::layout::BODY_TYPE;
-use sa_shape::{Shaped, shape_of};
+use sa_stackify::{ResultPlace, SaveSet};
+use sa_structure::{StructuredBody, structure_of};
+use sa_templates::{
+    EmitContext, EmitProgram, LabelDepth, Role, emit_prologue, locals_of, parameters_of,
+};
 use sqlite_items::Items;
 use std::alloc::Global;
 use wa_syntax::{Func, Instr, NoMemory};
@@ -26,29 +28,29 @@ use wa_syntax::{Func, Instr, NoMemory};
 /// one, and else dispatches between the blocks.
 pub(crate) fn function(
     alloc: Global,
-    program: Program<'_>,
-    body: &FlatBody,
+    program: EmitProgram<'_>,
+    body: &CfgBody,
     role: Role,
     first_site: u32,
 ) -> Result<Func, NoMemory>
     ensures { IfOk result (λ func. IsFunctionOf body.now func) }
 {
-    let keeping = held_graph(Keeping::of(alloc, body))?;
-    let around = Around {
+    let keeping = held_graph(SaveSet::of(alloc, body))?;
+    let around = EmitContext {
         program,
         body,
         role,
         labels: &[],
         again: &[],
         numbers: &[],
-        nesting: Nesting::outermost(),
+        nesting: LabelDepth::outermost(),
         readings: &[],
-        given: Given::Kept,
+        given: ResultPlace::Local,
         left: None,
         keeping: &keeping,
         first_site,
     };
-    let shaped = held_graph(shape_of(alloc, body))?;
+    let shaped = held_graph(structure_of(alloc, body))?;
     let code = match &shaped {
         Some(shaped) => shaped_code(alloc, &around, shaped)?,
         None => dispatched_code(alloc, &around)?,
@@ -64,54 +66,54 @@ pub(crate) fn function(
 /// The code of a body that has a shape.
 fn shaped_code(
     alloc: Global,
-    around: &Around<'_>,
-    shaped: &Shaped,
+    around: &EmitContext<'_>,
+    shaped: &StructuredBody,
 ) -> Result<Items<Instr>, NoMemory> {
-    let around = Around {
+    let around = EmitContext {
         again: shaped.again.as_slice(),
         numbers: shaped.numbers.as_slice(),
         ..*around
     };
     let mut code = Items::new(alloc);
     if shaped.entries.len() == 1 {
-        add_prologue(&mut code, around.body)?;
+        emit_prologue(&mut code, around.body)?;
     } else if shaped.repeats() {
-        add_before_choice(alloc, &mut code, &around)?;
+        emit_before_dispatch(alloc, &mut code, &around)?;
     }
     let mut writer = Writer::new(alloc, around.body)?;
-    add_shaped(alloc, &mut code, &around, &mut writer, shaped)?;
+    emit_structured(alloc, &mut code, &around, &mut writer, shaped)?;
     Ok(code)
 }
 
 /// The code of a body that dispatches between its blocks.
-fn dispatched_code(alloc: Global, around: &Around<'_>) -> Result<Items<Instr>, NoMemory> {
+fn dispatched_code(alloc: Global, around: &EmitContext<'_>) -> Result<Items<Instr>, NoMemory> {
     let predecessors = predecessors_of(alloc, around.body)?;
     let targets = targets_of(alloc, around.body, predecessors.as_slice())?;
-    let around = Around {
+    let around = EmitContext {
         again: targets.numbers.as_slice(),
         numbers: targets.numbers.as_slice(),
         ..*around
     };
     let mut code = Items::new(alloc);
     if has_frames(around.body) {
-        add_before_choice(alloc, &mut code, &around)?;
+        emit_before_dispatch(alloc, &mut code, &around)?;
     } else {
-        add_prologue(&mut code, around.body)?;
+        emit_prologue(&mut code, around.body)?;
     }
     let mut writer = Writer::new(alloc, around.body)?;
-    let dispatch = Dispatch {
+    let dispatch = BlockDispatch {
         around,
         targets: targets.blocks.as_slice(),
         repeats: targets.repeats.as_slice(),
     };
-    add_loop(alloc, &mut code, &mut writer, &dispatch)?;
+    emit_loop(alloc, &mut code, &mut writer, &dispatch)?;
     Ok(code)
 }
 
 /// The code of a body with what its suspensions go to, where there are several.
 fn suspending(
     alloc: Global,
-    around: &Around<'_>,
+    around: &EmitContext<'_>,
     code: Items<Instr>,
 ) -> Result<Items<Instr>, NoMemory> {
     let body = around.body;
@@ -122,6 +124,6 @@ fn suspending(
         return Ok(whole);
     }
     whole.push(Instr::block_of(alloc, None, code)?)?;
-    add_suspension(alloc, &mut whole, body, around.keeping)?;
+    emit_suspension(alloc, &mut whole, body, around.keeping)?;
     Ok(whole)
 }

@@ -13,7 +13,7 @@ mod places;
 mod pool;
 mod predecessors;
 mod program;
-mod reached;
+mod reachability;
 mod resuming;
 mod runtime;
 mod steps;
@@ -23,7 +23,7 @@ mod superblock;
 mod table;
 mod targets;
 mod texts;
-mod trial;
 mod types;
+mod verifier;
 
 pub use program::{emit, emit_traced};

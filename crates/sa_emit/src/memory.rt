@@ -1,11 +1,11 @@
 //! The linear memory: where the binds, the pool of frames, the literal texts and the objects lie, and how many pages there are.
 
 use crate::pool::pool_bytes;
-use crate::reached::Reached;
-use sa_emit_value::held;
-use sa_flat::{BindEntry, FlatProgram};
+use crate::reachability::Reachable;
+use sa_ast::Name;
+use sa_cfg::{BoundLayout, CfgProgram};
 use sa_runtime::layout::{OPEN_AT, SHAREDS_AT};
-use sa_tree::Name;
+use sa_templates::held;
 use sqlite_items::Items;
 use std::alloc::Global;
 use wa_syntax::{Limits, NoMemory};
@@ -45,8 +45,8 @@ pub(crate) struct Memory {
 /// texts, and the objects, which have so many KiB.
 pub(crate) fn memory_of(
     alloc: Global,
-    flat: &FlatProgram,
-    reached: &Reached,
+    flat: &CfgProgram,
+    reached: &Reachable,
     slot_bytes: u32,
     room: u32,
 ) -> Result<Memory, NoMemory> {
@@ -93,7 +93,7 @@ fn run_at(alloc: Global, at: u64) -> Run {
 }
 
 /// The binds from this address on.
-fn laid_binds(alloc: Global, at: u64, binds: &[BindEntry]) -> Result<Run, NoMemory> {
+fn laid_binds(alloc: Global, at: u64, binds: &[BoundLayout]) -> Result<Run, NoMemory> {
     let mut run = run_at(alloc, at);
     for bind in binds {
         run.add(size_of(u64::from(OPEN_AT), bind.open.len())?)?;

@@ -3,28 +3,28 @@
 ghost use Rattle.std.specs.Prelude.{IfOk};
 ghost use Rattle.sa_emit.specs.Tables.{AreFunctionsOf};
 
-use crate::functions::add_functions;
+use crate::functions::emit_functions;
 use crate::globals::globals;
 use crate::memory::Memory;
 use crate::places::Places;
-use crate::reached::Reached;
+use crate::reachability::Reachable;
 use crate::sums::{number, sum};
 use crate::table::{elements, tables};
 use crate::texts::segments;
 use crate::types::{GET_TYPE, PUT_TYPE, STOP_TYPE};
-use sa_emit_value::Program;
 use sa_runtime::layout::FIRST_BUILTIN;
+use sa_templates::EmitProgram;
 use sqlite_items::Items;
 use std::alloc::Global;
 use wa_syntax::{
-    Export, ExportKind, Func, FuncTy, Import, ImportKind, Limits, Module, Name, NoMemory,
+    Export, ExportKind, Func, FuncTy, Import, ImportKind, Limits, Module, NoMemory, WasmName,
 };
 
 /// The module of a program, with the functions of the runtime that it needs, and the types so far.
 pub(crate) fn module(
     alloc: Global,
-    program: Program<'_>,
-    reached: &Reached,
+    program: EmitProgram<'_>,
+    reached: &Reachable,
     memory: &Memory,
     places: &Places,
     mut funcs: Items<Func>,
@@ -32,7 +32,7 @@ pub(crate) fn module(
 ) -> Result<Module, NoMemory>
     ensures { IfOk result (λ made. AreFunctionsOf program.entry.flat.now.bodies made.funcs) }
 {
-    add_functions(alloc, &mut funcs, program, reached)?;
+    emit_functions(alloc, &mut funcs, program, reached)?;
     let main = sum(FIRST_BUILTIN, number(funcs.len().saturating_sub(1))?)?;
     Ok(Module {
         types,
@@ -51,7 +51,7 @@ pub(crate) fn module(
 /// For each body the number of its function, behind so many others, if it is reached.
 pub(crate) fn functions_of(
     alloc: Global,
-    reached: &Reached,
+    reached: &Reachable,
     before: usize,
 ) -> Result<Items<Option<u32>>, NoMemory> {
     let mut functions = Items::new(alloc);
@@ -78,8 +78,8 @@ fn imports(alloc: Global) -> Result<Items<Import>, NoMemory> {
 
 fn import(alloc: Global, name: &[u8], ty: u32) -> Result<Import, NoMemory> {
     Ok(Import {
-        module: Name::from_slice(alloc, b"env")?,
-        name: Name::from_slice(alloc, name)?,
+        module: WasmName::from_slice(alloc, b"env")?,
+        name: WasmName::from_slice(alloc, name)?,
         kind: ImportKind::Func(ty),
     })
 }
@@ -97,7 +97,7 @@ fn exports(alloc: Global, main: u32) -> Result<Items<Export>, NoMemory> {
 
 fn export(alloc: Global, name: &[u8], kind: ExportKind) -> Result<Export, NoMemory> {
     Ok(Export {
-        name: Name::from_slice(alloc, name)?,
+        name: WasmName::from_slice(alloc, name)?,
         kind,
     })
 }

@@ -8,7 +8,7 @@ use wa_syntax::opcode::{
 use wa_syntax::{Instr, NoMemory};
 
 /// Adds the negation. Where the last instruction is a comparison, the opposite one stands in its place.
-pub(crate) fn add_negation(code: &mut Items<Instr>) -> Result<(), NoMemory> {
+pub(crate) fn emit_negation(code: &mut Items<Instr>) -> Result<(), NoMemory> {
     let Some(last) = code.pop() else {
         return Err(NoMemory);
     };

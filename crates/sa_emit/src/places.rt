@@ -1,11 +1,11 @@
 //! The bodies that bound values call, and those of the implementations that have no place by their signature, with their places in
 //! the table of functions, behind those that have one.
 
-use crate::reached::Reached;
+use crate::reachability::Reachable;
 use crate::sums::{number, sum};
-use sa_dispatch::Rows;
-use sa_emit_value::held;
-use sa_flat::{BindEntry, Callee, FlatProgram};
+use sa_cfg::{BoundLayout, CallTarget, CfgProgram};
+use sa_dispatch::ImplementationTable;
+use sa_templates::held;
 use sqlite_items::Items;
 use std::alloc::Global;
 use wa_syntax::NoMemory;
@@ -24,9 +24,9 @@ pub(crate) struct Places {
 /// The places of a program's bodies: of those that binds name, and of the implementations that have no place by their signature.
 pub(crate) fn places_of(
     alloc: Global,
-    flat: &FlatProgram,
-    rows: &Rows,
-    reached: &Reached,
+    flat: &CfgProgram,
+    rows: &ImplementationTable,
+    reached: &Reachable,
 ) -> Result<Places, NoMemory> {
     let mut places = no_places(alloc, flat, rows)?;
     places.add_binds(flat, reached)?;
@@ -35,7 +35,11 @@ pub(crate) fn places_of(
 }
 
 /// No body has a place.
-fn no_places(alloc: Global, flat: &FlatProgram, rows: &Rows) -> Result<Places, NoMemory> {
+fn no_places(
+    alloc: Global,
+    flat: &CfgProgram,
+    rows: &ImplementationTable,
+) -> Result<Places, NoMemory> {
     let mut places = Places {
         first: rows.size(),
         of: Items::new(alloc),
@@ -49,7 +53,7 @@ fn no_places(alloc: Global, flat: &FlatProgram, rows: &Rows) -> Result<Places, N
 
 impl Places {
     /// Adds the bodies that the values of reached binds call.
-    fn add_binds(&mut self, flat: &FlatProgram, reached: &Reached) -> Result<(), NoMemory> {
+    fn add_binds(&mut self, flat: &CfgProgram, reached: &Reachable) -> Result<(), NoMemory> {
         for (bind, is_reached) in flat.binds.as_slice().iter().zip(reached.binds.iter()) {
             if *is_reached {
                 self.add_bind(bind)?;
@@ -61,9 +65,9 @@ impl Places {
     /// Adds the implementations of reached signatures that have no part of the table.
     fn add_signatures(
         &mut self,
-        flat: &FlatProgram,
-        rows: &Rows,
-        reached: &Reached,
+        flat: &CfgProgram,
+        rows: &ImplementationTable,
+        reached: &Reachable,
     ) -> Result<(), NoMemory> {
         for sig in 0..rows.signatures() {
             if reached.signatures.get(sig as usize) == Some(&true) {
@@ -74,9 +78,9 @@ impl Places {
     }
 
     /// Adds the body that the values of a bind call.
-    fn add_bind(&mut self, bind: &BindEntry) -> Result<(), NoMemory> {
+    fn add_bind(&mut self, bind: &BoundLayout) -> Result<(), NoMemory> {
         match bind.callee {
-            Callee::Body(body) => self.add(body),
+            CallTarget::Body(body) => self.add(body),
             _ => Ok(()),
         }
     }
@@ -97,7 +101,12 @@ impl Places {
     }
 
     /// Adds the implementations of a signature that has no part of the table.
-    fn add_signature(&mut self, flat: &FlatProgram, rows: &Rows, sig: u32) -> Result<(), NoMemory> {
+    fn add_signature(
+        &mut self,
+        flat: &CfgProgram,
+        rows: &ImplementationTable,
+        sig: u32,
+    ) -> Result<(), NoMemory> {
         if rows.types(sig).is_empty() || rows.span(sig).is_some() {
             return Ok(());
         }

@@ -1,10 +1,10 @@
 //! The pool of frames: how large a frame and the pool are.
 
 use crate::sums::{number, sum};
-use sa_emit_value::held;
-use sa_flat::{FlatBody, FlatProgram};
+use sa_cfg::{CfgBody, CfgProgram};
 use sa_runtime::layout::FRAME_WORDS;
 use sa_runtime::trace::{Tracing, traced_words};
+use sa_templates::held;
 use wa_syntax::NoMemory;
 
 /// How many frames the pool has.
@@ -18,12 +18,12 @@ const WORD: u32 = 8;
 
 /// Whether instances of a body have a frame while they are suspended: the body is that of an iter of a class. A body that was
 /// made for an implementation alone has the frame of the one that it enters.
-pub(crate) fn has_frames(body: &FlatBody) -> bool {
+pub(crate) fn has_frames(body: &CfgBody) -> bool {
     body.iter && body.feature.is_some()
 }
 
 /// How many words a frame takes, so that it holds what any iter of the program keeps.
-pub(crate) fn slot_words(flat: &FlatProgram, tracing: Tracing) -> Result<u32, NoMemory> {
+pub(crate) fn slot_words(flat: &CfgProgram, tracing: Tracing) -> Result<u32, NoMemory> {
     let mut most = 0;
     for body in flat.bodies.as_slice() {
         most = kept(body).max(most);
@@ -33,9 +33,9 @@ pub(crate) fn slot_words(flat: &FlatProgram, tracing: Tracing) -> Result<u32, No
 }
 
 /// How many variables a frame of this body keeps.
-fn kept(body: &FlatBody) -> usize {
+fn kept(body: &CfgBody) -> usize {
     if has_frames(body) {
-        return body.kept.len();
+        return body.saved.len();
     }
     0
 }

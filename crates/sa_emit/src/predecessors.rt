@@ -1,9 +1,9 @@
 //! The predecessors of each block of a body, by what leads to it: exits, raises and resumptions, of the blocks alone that can be
 //! reached from the first.
 
-use sa_emit_value::held;
-use sa_flat::{FlatBlock, FlatBody, FlatExit, Raised};
-use sa_shape::{leaves, raised_of};
+use sa_cfg::{BasicBlock, CfgBody, Handler, Terminator};
+use sa_structure::{leaves, raised_of};
+use sa_templates::held;
 use sqlite_items::Items;
 use std::alloc::Global;
 use wa_syntax::NoMemory;
@@ -23,7 +23,7 @@ pub(crate) enum Predecessors {
 
 /// What was found of the blocks of a body.
 #[derive(Drop)]
-struct Found {
+struct AnalysisResult {
     predecessors: Items<Predecessors>,
     /// The blocks that are reached and haven't been looked at.
     waiting: Items<u32>,
@@ -32,7 +32,7 @@ struct Found {
 /// The predecessors of each block.
 pub(crate) fn predecessors_of(
     alloc: Global,
-    body: &FlatBody,
+    body: &CfgBody,
 ) -> Result<Items<Predecessors>, NoMemory> {
     let mut found = begun(alloc, body)?;
     for _ in 0..body.blocks.len() {
@@ -43,7 +43,7 @@ pub(crate) fn predecessors_of(
         found.add_raises(body, block)?;
         found.add_exit(body, &block.exit)?;
     }
-    let Found {
+    let AnalysisResult {
         predecessors,
         waiting: _,
     } = found;
@@ -51,12 +51,12 @@ pub(crate) fn predecessors_of(
 }
 
 /// The first block alone is reached.
-fn begun(alloc: Global, body: &FlatBody) -> Result<Found, NoMemory> {
+fn begun(alloc: Global, body: &CfgBody) -> Result<AnalysisResult, NoMemory> {
     let mut predecessors = Items::new(alloc);
     for _ in 0..body.blocks.len() {
         predecessors.push(Predecessors::Unreached)?;
     }
-    let mut found = Found {
+    let mut found = AnalysisResult {
         predecessors,
         waiting: Items::new(alloc),
     };
@@ -64,9 +64,9 @@ fn begun(alloc: Global, body: &FlatBody) -> Result<Found, NoMemory> {
     Ok(found)
 }
 
-impl Found {
+impl AnalysisResult {
     /// The places that raises of the steps go to.
-    fn add_raises(&mut self, body: &FlatBody, block: &FlatBlock) -> Result<(), NoMemory> {
+    fn add_raises(&mut self, body: &CfgBody, block: &BasicBlock) -> Result<(), NoMemory> {
         for step in block.steps.as_slice() {
             if let Some(raised) = raised_of(step) {
                 self.add_raise(body, raised)?;
@@ -76,18 +76,18 @@ impl Found {
     }
 
     /// The places that an exit goes to.
-    fn add_exit(&mut self, body: &FlatBody, exit: &FlatExit) -> Result<(), NoMemory> {
+    fn add_exit(&mut self, body: &CfgBody, exit: &Terminator) -> Result<(), NoMemory> {
         match exit {
-            FlatExit::Jump(to) => self.add_once(*to),
-            FlatExit::Branch { test: _, yes, no } => {
+            Terminator::Jump(to) => self.add_once(*to),
+            Terminator::Branch { test: _, yes, no } => {
                 self.add_once(*yes)?;
                 self.add_once(*no)
             }
-            FlatExit::Suspend { value: _, resume } => self.add_resumption(*resume),
-            FlatExit::Stop { kind: _, fail } => self.add_raise(body, fail.raised),
-            FlatExit::Return { value: _ } => Ok(()),
-            FlatExit::Quit => Ok(()),
-            FlatExit::Raise { .. } => Ok(()),
+            Terminator::Suspend { value: _, resume } => self.add_resumption(*resume),
+            Terminator::Fault { kind: _, fail } => self.add_raise(body, fail.raised),
+            Terminator::Return { value: _ } => Ok(()),
+            Terminator::Quit => Ok(()),
+            Terminator::Raise { .. } => Ok(()),
         }
     }
 
@@ -100,7 +100,7 @@ impl Found {
     }
 
     /// A raise goes to its block, unless its code leaves the body at once.
-    fn add_raise(&mut self, body: &FlatBody, raised: Raised) -> Result<(), NoMemory> {
+    fn add_raise(&mut self, body: &CfgBody, raised: Handler) -> Result<(), NoMemory> {
         if leaves(body, raised) {
             return Ok(());
         }

@@ -7,14 +7,14 @@ use crate::memory::{Memory, memory_of};
 use crate::module::{functions_of, module};
 use crate::places::{Places, places_of};
 use crate::pool::{slot_bytes, slot_words};
-use crate::reached::{Reached, reached_of};
+use crate::reachability::{Reachable, reachable_of};
 use crate::runtime::{Runtime, runtime_of};
 use crate::types::own_types;
-use sa_dispatch::Rows;
-use sa_emit_value::{Below, Program, held};
-use sa_flat::FlatProgram;
-use sa_runtime::layout::FIRST_TELLER;
-use sa_runtime::trace::{Tellers, Tracing};
+use sa_cfg::CfgProgram;
+use sa_dispatch::ImplementationTable;
+use sa_runtime::layout::FIRST_TRACE_FUNCTION;
+use sa_runtime::trace::{TraceFunctions, Tracing};
+use sa_templates::{EmitProgram, SubtypeRanges, held};
 use sqlite_items::Items;
 use std::alloc::Global;
 use wa_syntax::{FuncTy, Module, NoMemory};
@@ -25,7 +25,12 @@ use wa_syntax::{FuncTy, Module, NoMemory};
 ///
 /// `NoMemory`, also where an address or a number of the module doesn't fit 32 bits, and where a number of the program names
 /// nothing.
-pub fn emit(alloc: Global, flat: &FlatProgram, rows: &Rows, room: u32) -> Result<Module, NoMemory>
+pub fn emit(
+    alloc: Global,
+    flat: &CfgProgram,
+    rows: &ImplementationTable,
+    room: u32,
+) -> Result<Module, NoMemory>
     ensures tables { IfOk result (λ made. AreFunctionsOf flat.now.bodies made.funcs) }
 {
     emitted(alloc, flat, rows, room, Tracing::Off)
@@ -39,39 +44,39 @@ pub fn emit(alloc: Global, flat: &FlatProgram, rows: &Rows, room: u32) -> Result
 /// Those of [`emit`].
 pub fn emit_traced(
     alloc: Global,
-    flat: &FlatProgram,
-    rows: &Rows,
+    flat: &CfgProgram,
+    rows: &ImplementationTable,
     room: u32,
 ) -> Result<Module, NoMemory>
     ensures tables { IfOk result (λ made. AreFunctionsOf flat.now.bodies made.funcs) }
 {
-    let tellers = Tellers::from_first(FIRST_TELLER)?;
+    let tellers = TraceFunctions::from_first(FIRST_TRACE_FUNCTION)?;
     emitted(alloc, flat, rows, room, Tracing::On(tellers))
 }
 
 /// What is found out about a program before its first instruction.
 #[derive(Drop)]
-struct Found {
-    reached: Reached,
+struct AnalysisResult {
+    reached: Reachable,
     memory: Memory,
-    below: Below,
+    below: SubtypeRanges,
     places: Places,
 }
 
 /// What is found out about a program.
-fn found_of(
+fn analysis_of(
     alloc: Global,
-    flat: &FlatProgram,
-    rows: &Rows,
+    flat: &CfgProgram,
+    rows: &ImplementationTable,
     room: u32,
     tracing: Tracing,
-) -> Result<Found, NoMemory> {
+) -> Result<AnalysisResult, NoMemory> {
     let slot_bytes = slot_bytes(slot_words(flat, tracing)?)?;
-    let reached = reached_of(alloc, flat, rows, tracing)?;
+    let reached = reachable_of(alloc, flat, rows, tracing)?;
     let memory = memory_of(alloc, flat, &reached, slot_bytes, room)?;
-    let below = Below::of(alloc, flat)?;
+    let below = SubtypeRanges::of(alloc, flat)?;
     let places = places_of(alloc, flat, rows, &reached)?;
-    Ok(Found {
+    Ok(AnalysisResult {
         reached,
         memory,
         below,
@@ -82,14 +87,14 @@ fn found_of(
 /// The module of a program, traced or not. The functions that put frames of the trace are named as those of the runtime.
 fn emitted(
     alloc: Global,
-    flat: &FlatProgram,
-    rows: &Rows,
+    flat: &CfgProgram,
+    rows: &ImplementationTable,
     room: u32,
     tracing: Tracing,
 ) -> Result<Module, NoMemory>
     ensures { IfOk result (λ made. AreFunctionsOf flat.now.bodies made.funcs) }
 {
-    let found = found_of(alloc, flat, rows, room, tracing)?;
+    let found = analysis_of(alloc, flat, rows, room, tracing)?;
     let mut types = own_types(alloc)?;
     let called = found.reached.runtime.as_slice();
     let runtime = runtime_of(alloc, &mut types, &found.memory, room, tracing, called)?;
@@ -99,9 +104,9 @@ fn emitted(
 /// The module of a program, with the functions of the runtime that it needs, and the types so far.
 fn with_runtime(
     alloc: Global,
-    flat: &FlatProgram,
-    rows: &Rows,
-    found: &Found,
+    flat: &CfgProgram,
+    rows: &ImplementationTable,
+    found: &AnalysisResult,
     types: Items<FuncTy>,
     runtime: Runtime,
     tracing: Tracing,
@@ -110,7 +115,7 @@ fn with_runtime(
 {
     let Runtime { funcs, numbers } = runtime;
     let functions = functions_of(alloc, &found.reached, funcs.len())?;
-    let program = Program {
+    let program = EmitProgram {
         flat,
         rows,
         texts: found.memory.texts.as_slice(),
@@ -138,7 +143,7 @@ fn in_module(tracing: Tracing, numbers: &[Option<u32>]) -> Result<Tracing, NoMem
         Tracing::Off => Ok(Tracing::Off),
         Tracing::On(tellers) => {
             let first = held(numbers.get(tellers.byte as usize).copied())?;
-            Ok(Tracing::On(Tellers::from_first(held(first)?)?))
+            Ok(Tracing::On(TraceFunctions::from_first(held(first)?)?))
         }
     }
 }

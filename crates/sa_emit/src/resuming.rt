@@ -1,26 +1,26 @@
 //! How the function of an iter's body begins or goes on: the choice between its blocks by the number in its frame.
 
-use sa_emit_step::{add_begun, add_entered, add_taken_up};
-use sa_emit_value::{Around, add_jump, held, target_number};
-use sa_flat::{FlatBody, FlatExit};
-use sa_shape::Shaped;
+use sa_cfg::{CfgBody, Terminator};
+use sa_emit_step::{emit_entry_prologue, emit_resume_prologue, emit_start_prologue};
+use sa_structure::StructuredBody;
+use sa_templates::{EmitContext, emit_jump, held, target_number};
 use sqlite_items::Items;
 use std::alloc::Global;
 use wa_syntax::{Instr, NoMemory};
 
 /// Adds what stands before code that is jumped back to: behind it the number of the block to go on in is in its local, and what a
 /// start or a resumption takes is there.
-pub(crate) fn add_before_choice(
+pub(crate) fn emit_before_dispatch(
     alloc: Global,
     code: &mut Items<Instr>,
-    around: &Around<'_>,
+    around: &EmitContext<'_>,
 ) -> Result<(), NoMemory> {
-    add_entered(code, around.body)?;
+    emit_entry_prologue(code, around.body)?;
     code.push(Instr::LocalTee(around.block()))?;
     let mut resumption = Items::new(alloc);
-    add_taken_up(alloc, &mut resumption, around.body, around.keeping)?;
+    emit_resume_prologue(alloc, &mut resumption, around.body, around.keeping)?;
     let mut start = Items::new(alloc);
-    add_begun(
+    emit_start_prologue(
         &mut start,
         around.body,
         around.keeping,
@@ -31,54 +31,54 @@ pub(crate) fn add_before_choice(
 }
 
 /// Adds the choice that is made once: at a resumption it jumps to the block to go on in, and a start goes on behind it.
-pub(crate) fn add_choice(
+pub(crate) fn emit_dispatch(
     alloc: Global,
     code: &mut Items<Instr>,
-    around: &Around<'_>,
-    shaped: &Shaped,
+    around: &EmitContext<'_>,
+    shaped: &StructuredBody,
 ) -> Result<(), NoMemory> {
     let body = around.body;
     let inner = around.further_in()?;
     let mut resumption = Items::new(alloc);
-    add_taken_up(alloc, &mut resumption, body, around.keeping)?;
-    add_entered(code, body)?;
+    emit_resume_prologue(alloc, &mut resumption, body, around.keeping)?;
+    emit_entry_prologue(code, body)?;
     match shaped.entries.as_slice() {
-        [_, block] => add_jump(&mut resumption, &inner, *block)?,
+        [_, block] => emit_jump(&mut resumption, &inner, *block)?,
         _ => {
             code.push(Instr::LocalTee(around.block()))?;
-            add_table(alloc, &mut resumption, &inner, shaped, None)?;
+            emit_table(alloc, &mut resumption, &inner, shaped, None)?;
         }
     }
     code.push(Instr::if_of(alloc, None, resumption, Items::new(alloc))?)?;
-    add_begun(code, body, around.keeping, only_resume(around)?)
+    emit_start_prologue(code, body, around.keeping, only_resume(around)?)
 }
 
-/// Adds the choice that is jumped back to. `behind` is the block that begins behind it.
-pub(crate) fn add_choice_again(
+/// Adds the choice that is jumped back to. `following` is the block that begins behind it.
+pub(crate) fn emit_dispatch_again(
     alloc: Global,
     code: &mut Items<Instr>,
-    around: &Around<'_>,
-    shaped: &Shaped,
-    behind: Option<u32>,
+    around: &EmitContext<'_>,
+    shaped: &StructuredBody,
+    following: Option<u32>,
 ) -> Result<(), NoMemory> {
     let mut table = Items::new(alloc);
-    add_table(alloc, &mut table, &around.further_in()?, shaped, behind)?;
+    emit_table(alloc, &mut table, &around.further_in()?, shaped, following)?;
     code.push(Instr::block_of(alloc, None, table)?)?;
     Ok(())
 }
 
 /// Adds the table of the blocks by their numbers. The one that begins behind what stands around it has the label 0.
-fn add_table(
+fn emit_table(
     alloc: Global,
     code: &mut Items<Instr>,
-    around: &Around<'_>,
-    shaped: &Shaped,
-    behind: Option<u32>,
+    around: &EmitContext<'_>,
+    shaped: &StructuredBody,
+    following: Option<u32>,
 ) -> Result<(), NoMemory> {
     let mut labels = Items::new(alloc);
     let mut last = 0;
     for block in shaped.entries.as_slice() {
-        last = label_of(around, *block, behind)?;
+        last = label_of(around, *block, following)?;
         labels.push(last)?;
     }
     code.push(Instr::LocalGet(around.block()))?;
@@ -87,8 +87,8 @@ fn add_table(
 }
 
 /// The label of a block in the table. Block 0 has none where a start doesn't come to the table.
-fn label_of(around: &Around<'_>, block: u32, behind: Option<u32>) -> Result<u32, NoMemory> {
-    if behind == Some(block) {
+fn label_of(around: &EmitContext<'_>, block: u32, following: Option<u32>) -> Result<u32, NoMemory> {
+    if following == Some(block) {
         return Ok(0);
     }
     match held(around.labels.get(block as usize).copied())? {
@@ -99,7 +99,7 @@ fn label_of(around: &Around<'_>, block: u32, behind: Option<u32>) -> Result<u32,
 }
 
 /// The number of the block that is gone on in behind the suspension, where there is one alone.
-fn only_resume(around: &Around<'_>) -> Result<Option<u32>, NoMemory> {
+fn only_resume(around: &EmitContext<'_>) -> Result<Option<u32>, NoMemory> {
     if around.keeping.suspensions != 1 {
         return Ok(None);
     }
@@ -109,9 +109,9 @@ fn only_resume(around: &Around<'_>) -> Result<Option<u32>, NoMemory> {
     }
 }
 
-fn resume_of(body: &FlatBody) -> Option<u32> {
+fn resume_of(body: &CfgBody) -> Option<u32> {
     for block in body.blocks.as_slice() {
-        if let FlatExit::Suspend {
+        if let Terminator::Suspend {
             value: _,
             resume: Some(to),
         } = block.exit

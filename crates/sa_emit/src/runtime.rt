@@ -3,11 +3,11 @@
 use crate::memory::Memory;
 use crate::sums::{number, sum};
 use crate::types::{GET_TYPE, PUT_TYPE, host_types};
-use sa_emit_value::held;
 use sa_pool::PoolCode;
 use sa_runtime::layout::{FIRST_BUILTIN, FUNCTIONS};
 use sa_runtime::trace::Tracing;
 use sa_runtime::{RuntimeCode, code, frames, support, trace_code};
+use sa_templates::held;
 use sqlite_items::Items;
 use std::alloc::Global;
 use wa_syntax::{Func, FuncTy, Instr, Locals, NoMemory};
@@ -38,7 +38,7 @@ pub(crate) fn runtime_of(
     called: &[bool],
 ) -> Result<Runtime, NoMemory> {
     let all = all_functions(alloc, memory, room, tracing)?;
-    let Needed { marks, .. } = Needed::of(alloc, all.funcs.as_slice(), called)?;
+    let NeededFunctions { marks, .. } = NeededFunctions::of(alloc, all.funcs.as_slice(), called)?;
     let numbers = numbers_of(alloc, &marks)?;
     let funcs = kept(alloc, types, &all, &marks, numbers.as_slice())?;
     Ok(Runtime { funcs, numbers })
@@ -171,17 +171,17 @@ fn typed(func: Func, ty: u32) -> Func {
 
 /// The functions of the runtime behind the imported ones that are needed.
 #[derive(Drop)]
-struct Needed {
+struct NeededFunctions {
     /// For each whether it is.
     marks: Vec<bool>,
     /// Those that are needed and whose calls haven't been looked at.
     waiting: Vec<u32>,
 }
 
-impl Needed {
+impl NeededFunctions {
     /// The functions that are called, and those that needed ones call.
-    fn of(alloc: Global, funcs: &[Func], called: &[bool]) -> Result<Needed, NoMemory> {
-        let mut needed = Needed {
+    fn of(alloc: Global, funcs: &[Func], called: &[bool]) -> Result<NeededFunctions, NoMemory> {
+        let mut needed = NeededFunctions {
             marks: vec![in alloc; false; funcs.len()]?,
             waiting: Vec::new(alloc),
         };

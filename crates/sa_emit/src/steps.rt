@@ -1,19 +1,19 @@
 //! The steps of blocks, with what stays an operand between them.
 
 use crate::sums::held_graph;
-use sa_emit_step::add_step;
-use sa_emit_value::{Around, Reading, jump_to, word_of};
-use sa_flat::{FIRST_TEMPORARY, FlatBlock, FlatBody, FlatExit, FlatStep};
-use sa_operands::{Given, Planner, add_set, result_of};
+use sa_cfg::{BasicBlock, CfgBody, CfgOperation, FIRST_TEMPORARY, Terminator};
+use sa_emit_step::emit_step;
+use sa_stackify::{Planner, ResultPlace, add_set, result_of};
+use sa_templates::{EmitContext, OperandSource, jump_to, word_of};
 use sqlite_items::Items;
 use std::alloc::Global;
 use wa_syntax::{Instr, NoMemory, opcode};
 
 /// What instruction a turn has, so that a run never has more turns than instructions.
 #[derive(Clone, Copy, Debug, PartialEq, Eq)]
-pub(crate) enum Turn {
+pub(crate) enum BackEdge {
     /// The one by which the block is come to.
-    Way,
+    Edge,
     /// A `nop` of its own.
     Nop,
 }
@@ -23,7 +23,7 @@ pub(crate) enum Turn {
 pub(crate) struct Writer<'a> {
     planner: Planner<'a>,
     /// How each temporary is read.
-    readings: Vec<Reading>,
+    readings: Vec<OperandSource>,
     /// The temporaries that aren't read from their locals.
     elsewhere: Vec<u32>,
     /// The variables that the step at hand sets.
@@ -33,11 +33,11 @@ pub(crate) struct Writer<'a> {
 }
 
 impl<'a> Writer<'a> {
-    pub(crate) fn new(alloc: Global, body: &'a FlatBody) -> Result<Writer<'a>, NoMemory> {
+    pub(crate) fn new(alloc: Global, body: &'a CfgBody) -> Result<Writer<'a>, NoMemory> {
         let temporaries = body.temporaries.saturating_sub(FIRST_TEMPORARY) as usize;
         Ok(Writer {
             planner: held_graph(Planner::new(alloc, body))?,
-            readings: vec![in alloc; Reading::Local; temporaries]?,
+            readings: vec![in alloc; OperandSource::Local; temporaries]?,
             elsewhere: Vec::new(alloc),
             set: Vec::new(alloc),
             labels: vec![in alloc; None; body.blocks.len()]?,
@@ -65,31 +65,31 @@ impl<'a> Writer<'a> {
 
     /// Adds the steps of a block, of which the exit is left. `turn` is what instruction a turn has that is the first of them; each
     /// other one has a `nop`. The answer is whether the last step has decided the branch behind it.
-    pub(crate) fn add_steps(
+    pub(crate) fn emit_steps(
         &mut self,
         alloc: Global,
         code: &mut Items<Instr>,
-        around: &Around<'_>,
+        around: &EmitContext<'_>,
         number: u32,
-        block: &FlatBlock,
-        turn: Turn,
+        block: &BasicBlock,
+        turn: BackEdge,
     ) -> Result<bool, NoMemory> {
         self.forget()?;
         let mut turn = turn;
         let mut decided = false;
         let given = copied(alloc, held_graph(self.planner.plan(number))?)?;
         for (step, given) in block.steps.as_slice().iter().zip(given.iter()) {
-            if is_turn(step) && turn == Turn::Nop {
+            if is_turn(step) && turn == BackEdge::Nop {
                 code.push(Instr::Plain(opcode::NOP))?;
             }
-            turn = Turn::Nop;
-            let here = Around {
+            turn = BackEdge::Nop;
+            let here = EmitContext {
                 labels: self.labels.as_slice(),
                 ..*around
             };
             let left = left_to(&here, block, *given);
             decided = left.is_some();
-            self.add_step(alloc, code, around, step, *given, left)?;
+            self.emit_step(alloc, code, around, step, *given, left)?;
         }
         Ok(decided)
     }
@@ -98,36 +98,36 @@ impl<'a> Writer<'a> {
     fn forget(&mut self) -> Result<(), NoMemory> {
         for _ in 0..self.elsewhere.len() {
             if let Some(var) = self.elsewhere.pop() {
-                put(&mut self.readings, var, Reading::Local)?;
+                put(&mut self.readings, var, OperandSource::Local)?;
             }
         }
         Ok(())
     }
 
-    fn add_step(
+    fn emit_step(
         &mut self,
         alloc: Global,
         code: &mut Items<Instr>,
-        around: &Around<'_>,
-        step: &FlatStep,
-        given: Given,
+        around: &EmitContext<'_>,
+        step: &CfgOperation,
+        given: ResultPlace,
         left: Option<u32>,
     ) -> Result<(), NoMemory> {
-        if given != Given::Read && given != Given::Done {
-            let here = Around {
+        if given != ResultPlace::Rematerialised && given != ResultPlace::AlreadyThere {
+            let here = EmitContext {
                 given,
                 left,
                 readings: self.readings.as_slice(),
                 labels: self.labels.as_slice(),
                 ..*around
             };
-            add_step(alloc, code, &here, step)?;
+            emit_step(alloc, code, &here, step)?;
         }
         self.set.clear();
         held_graph(add_set(&mut self.set, step))?;
         for at in 0..self.set.len() {
             if let Some(var) = self.set.get(at).copied() {
-                put(&mut self.readings, var, Reading::Local)?;
+                put(&mut self.readings, var, OperandSource::Local)?;
             }
         }
         if let Some(var) = result_of(step) {
@@ -136,8 +136,8 @@ impl<'a> Writer<'a> {
         Ok(())
     }
 
-    fn read_from(&mut self, var: u32, reading: Reading) -> Result<(), NoMemory> {
-        if reading != Reading::Local && var >= FIRST_TEMPORARY {
+    fn read_from(&mut self, var: u32, reading: OperandSource) -> Result<(), NoMemory> {
+        if reading != OperandSource::Local && var >= FIRST_TEMPORARY {
             put(&mut self.readings, var, reading)?;
             self.elsewhere.push(var)?;
         }
@@ -145,7 +145,7 @@ impl<'a> Writer<'a> {
     }
 
     /// How each temporary is read behind the steps that were added last.
-    pub(crate) fn readings(&self) -> &[Reading] {
+    pub(crate) fn readings(&self) -> &[OperandSource] {
         self.readings.as_slice()
     }
 
@@ -155,12 +155,16 @@ impl<'a> Writer<'a> {
     }
 }
 
-fn copied(alloc: Global, given: &[Given]) -> Result<Vec<Given>, NoMemory> {
+fn copied(alloc: Global, given: &[ResultPlace]) -> Result<Vec<ResultPlace>, NoMemory> {
     Ok(Vec::from_slice(alloc, given)?)
 }
 
 /// Sets how a temporary is read. Other variables are read from their locals.
-fn put(readings: &mut Vec<Reading>, var: u32, reading: Reading) -> Result<(), NoMemory> {
+fn put(
+    readings: &mut Vec<OperandSource>,
+    var: u32,
+    reading: OperandSource,
+) -> Result<(), NoMemory> {
     let Some(place) = var.checked_sub(FIRST_TEMPORARY) else {
         return Ok(());
     };
@@ -174,35 +178,39 @@ fn put(readings: &mut Vec<Reading>, var: u32, reading: Reading) -> Result<(), No
 }
 
 /// How the value is read that a step gives.
-fn reading_of(around: &Around<'_>, step: &FlatStep, given: Given) -> Result<Reading, NoMemory> {
+fn reading_of(
+    around: &EmitContext<'_>,
+    step: &CfgOperation,
+    given: ResultPlace,
+) -> Result<OperandSource, NoMemory> {
     match given {
-        Given::Operand => Ok(Reading::Operand),
-        Given::Truth => Ok(Reading::Truth),
-        Given::Read => free_reading(around, step),
-        _ => Ok(Reading::Local),
+        ResultPlace::Stack => Ok(OperandSource::Operand),
+        ResultPlace::StackBool => Ok(OperandSource::Truth),
+        ResultPlace::Rematerialised => free_reading(around, step),
+        _ => Ok(OperandSource::Local),
     }
 }
 
 /// How the value of a step is read that isn't done.
-fn free_reading(around: &Around<'_>, step: &FlatStep) -> Result<Reading, NoMemory> {
+fn free_reading(around: &EmitContext<'_>, step: &CfgOperation) -> Result<OperandSource, NoMemory> {
     match step {
-        FlatStep::Const { value, .. } => Ok(Reading::Word(word_of(around, value)?)),
-        FlatStep::Me { .. } => Ok(Reading::Me),
+        CfgOperation::Const { value, .. } => Ok(OperandSource::Word(word_of(around, value)?)),
+        CfgOperation::SelfRef { .. } => Ok(OperandSource::SelfRef),
         _ => Err(NoMemory),
     }
 }
 
 /// Whether a step spends a turn and does nothing else.
-fn is_turn(step: &FlatStep) -> bool {
-    matches!(step, FlatStep::Turn)
+fn is_turn(step: &CfgOperation) -> bool {
+    matches!(step, CfgOperation::Turn)
 }
 
 /// The block that a step goes on in where it decides the branch behind it, and its instance has ended: one that is jumped to.
-fn left_to(around: &Around<'_>, block: &FlatBlock, given: Given) -> Option<u32> {
-    if given != Given::Branches {
+fn left_to(around: &EmitContext<'_>, block: &BasicBlock, given: ResultPlace) -> Option<u32> {
+    if given != ResultPlace::FusedBranch {
         return None;
     }
-    let FlatExit::Branch { yes, .. } = block.exit else {
+    let Terminator::Branch { yes, .. } = block.exit else {
         return None;
     };
     match jump_to(around, yes) {

@@ -1,6 +1,6 @@
 //! Sums and lengths that fit by the way that a flat program is made. Where they don't, memory is said to have run out.
 
-use sa_emit_value::held;
+use sa_templates::held;
 use wa_syntax::NoMemory;
 
 /// The sum of two numbers.
@@ -14,6 +14,6 @@ pub(crate) fn number(length: usize) -> Result<u32, NoMemory> {
 }
 
 /// What the analyses of a body give, which stand on the crates of trees. Their want of memory is the module's.
-pub(crate) fn held_graph<T>(found: Result<T, sa_tree::NoMemory>) -> Result<T, NoMemory> {
+pub(crate) fn held_graph<T>(found: Result<T, sa_ast::NoMemory>) -> Result<T, NoMemory> {
     found.map_err(|_| NoMemory)
 }

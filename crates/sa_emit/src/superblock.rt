@@ -1,19 +1,19 @@
 //! The code of a superblock: of the block of a dispatch target, and of the blocks behind it, each of which has one predecessor, up
 //! to jumps to dispatch targets and to exits that leave the body.
 
-use crate::steps::{Turn, Writer};
+use crate::steps::{BackEdge, Writer};
 use crate::targets::DEEPEST;
-use sa_emit_step::add_leaving;
-use sa_emit_value::{Around, Nesting, add_jump, add_test, held};
-use sa_flat::FlatExit;
+use sa_cfg::Terminator;
+use sa_emit_step::emit_leaving;
+use sa_templates::{EmitContext, LabelDepth, emit_jump, emit_test, held};
 use sqlite_items::Items;
 use std::alloc::Global;
 use wa_syntax::{Instr, NoMemory, opcode};
 
 /// A place in the code of a superblock.
 #[derive(Clone, Copy)]
-struct Spot<'a> {
-    around: Around<'a>,
+struct CodePosition<'a> {
+    around: EmitContext<'a>,
     /// The loop around this superblock alone, where there is one.
     own: Option<OwnLoop>,
 }
@@ -24,13 +24,13 @@ struct OwnLoop {
     /// The block that the superblock begins with.
     block: u32,
     /// How deep the place stands in the loop.
-    nesting: Nesting,
+    nesting: LabelDepth,
 }
 
-impl<'a> Spot<'a> {
+impl<'a> CodePosition<'a> {
     /// The place one block of code further in.
-    fn further_in(&self) -> Result<Spot<'a>, NoMemory> {
-        Ok(Spot {
+    fn further_in(&self) -> Result<CodePosition<'a>, NoMemory> {
+        Ok(CodePosition {
             around: self.around.further_in()?,
             own: own_further_in(self.own)?,
         })
@@ -40,7 +40,7 @@ impl<'a> Spot<'a> {
     fn label_of(&self, target: u32) -> Option<u32> {
         let own = self.own?;
         if own.block == target {
-            return Some(own.nesting.label_around());
+            return Some(own.nesting.outer_label());
         }
         None
     }
@@ -62,41 +62,41 @@ fn own_further_in(own: Option<OwnLoop>) -> Result<Option<OwnLoop>, NoMemory> {
 }
 
 /// Adds the superblock of a dispatch target that it jumps to itself: in a loop of its own, so that these jumps need no dispatch.
-pub(crate) fn add_repeated_target(
+pub(crate) fn emit_repeated_target(
     alloc: Global,
     code: &mut Items<Instr>,
     writer: &mut Writer<'_>,
-    around: Around<'_>,
+    around: EmitContext<'_>,
     block: u32,
 ) -> Result<(), NoMemory> {
-    let spot = Spot {
+    let spot = CodePosition {
         around: around.further_in()?,
         own: Some(OwnLoop {
             block,
-            nesting: Nesting::outermost(),
+            nesting: LabelDepth::outermost(),
         }),
     };
     let mut body = Items::new(alloc);
-    add_superblock(alloc, &mut body, writer, spot, block, DEEPEST)?;
+    emit_superblock(alloc, &mut body, writer, spot, block, DEEPEST)?;
     code.push(Instr::loop_of(alloc, None, body)?)?;
     Ok(())
 }
 
 /// Adds the superblock of a dispatch target that it doesn't jump to itself.
-pub(crate) fn add_target(
+pub(crate) fn emit_target(
     alloc: Global,
     code: &mut Items<Instr>,
     writer: &mut Writer<'_>,
-    around: Around<'_>,
+    around: EmitContext<'_>,
     block: u32,
 ) -> Result<(), NoMemory> {
-    let spot = Spot { around, own: None };
-    add_superblock(alloc, code, writer, spot, block, DEEPEST)
+    let spot = CodePosition { around, own: None };
+    emit_superblock(alloc, code, writer, spot, block, DEEPEST)
 }
 
 /// What stands behind the code of a block.
 #[derive(Clone, Copy, Debug)]
-enum Behind {
+enum TableTail {
     Nothing,
     /// The code of this block.
     Block(u32),
@@ -106,21 +106,21 @@ enum Behind {
 
 /// Adds the code that begins with this block. `depth` is the number of branches that may stand one inside the other there.
 #[cycle(superblock)]
-fn add_superblock(
+fn emit_superblock(
     alloc: Global,
     code: &mut Items<Instr>,
     writer: &mut Writer<'_>,
-    spot: Spot<'_>,
+    spot: CodePosition<'_>,
     first: u32,
     depth: u32,
 ) -> Result<(), NoMemory> {
     let mut next = first;
     for _ in 0..spot.around.body.blocks.len() {
-        match add_block(alloc, code, writer, spot, next)? {
-            Behind::Nothing => return Ok(()),
-            Behind::Block(block) => next = block,
-            Behind::Sides { yes, no } => {
-                add_side(alloc, code, writer, spot, yes, depth)?;
+        match emit_block(alloc, code, writer, spot, next)? {
+            TableTail::Nothing => return Ok(()),
+            TableTail::Block(block) => next = block,
+            TableTail::Sides { yes, no } => {
+                emit_side(alloc, code, writer, spot, yes, depth)?;
                 next = no;
             }
         }
@@ -130,11 +130,11 @@ fn add_superblock(
 
 /// Adds the code that begins with the block `yes` of a branch, for where the test holds.
 #[cycle(superblock)]
-fn add_side(
+fn emit_side(
     alloc: Global,
     code: &mut Items<Instr>,
     writer: &mut Writer<'_>,
-    spot: Spot<'_>,
+    spot: CodePosition<'_>,
     yes: u32,
     depth: u32,
 ) -> Result<(), NoMemory> {
@@ -143,7 +143,7 @@ fn add_side(
     }
     let inner = spot.further_in()?;
     let mut side = Items::new(alloc);
-    add_superblock(alloc, &mut side, writer, inner, yes, depth - 1)?;
+    emit_superblock(alloc, &mut side, writer, inner, yes, depth - 1)?;
     code.push(Instr::if_of(alloc, None, side, Items::new(alloc))?)?;
     Ok(())
 }
@@ -160,78 +160,82 @@ fn too_deep() -> NoMemory {
 }
 
 /// Adds the code of a block, and says what stands behind it.
-fn add_block(
+fn emit_block(
     alloc: Global,
     code: &mut Items<Instr>,
     writer: &mut Writer<'_>,
-    spot: Spot<'_>,
+    spot: CodePosition<'_>,
     number: u32,
-) -> Result<Behind, NoMemory> {
+) -> Result<TableTail, NoMemory> {
     let block = held(spot.around.body.blocks.get(number as usize))?;
     let turn = first_turn(spot, number)?;
-    let decided = writer.add_steps(alloc, code, &spot.around, number, block, turn)?;
-    let here = Around {
+    let decided = writer.emit_steps(alloc, code, &spot.around, number, block, turn)?;
+    let here = EmitContext {
         readings: writer.readings(),
         labels: writer.labels(),
         ..spot.around
     };
     match &block.exit {
-        FlatExit::Jump(to) => add_going_on(code, spot, *to),
-        FlatExit::Branch { no, .. } if decided => add_going_on(code, spot, *no),
-        FlatExit::Branch { test, yes, no } => {
-            add_test(code, &here, *test)?;
-            add_branch(alloc, code, spot, *yes, *no)
+        Terminator::Jump(to) => emit_transfer(code, spot, *to),
+        Terminator::Branch { no, .. } if decided => emit_transfer(code, spot, *no),
+        Terminator::Branch { test, yes, no } => {
+            emit_test(code, &here, *test)?;
+            emit_branch(alloc, code, spot, *yes, *no)
         }
         exit => {
-            add_leaving(alloc, code, &here, exit)?;
-            Ok(Behind::Nothing)
+            emit_leaving(alloc, code, &here, exit)?;
+            Ok(TableTail::Nothing)
         }
     }
 }
 
 /// What instruction a turn has that a block begins with: the jump where each way into the block is one, which holds of the
 /// dispatch targets but for the one that the body begins with.
-fn first_turn(spot: Spot<'_>, block: u32) -> Result<Turn, NoMemory> {
+fn first_turn(spot: CodePosition<'_>, block: u32) -> Result<BackEdge, NoMemory> {
     if block > 0 && spot.is_target(block)? {
-        return Ok(Turn::Way);
+        return Ok(BackEdge::Edge);
     }
-    Ok(Turn::Nop)
+    Ok(BackEdge::Nop)
 }
 
 /// Adds a jump to a block that is a dispatch target. The code of another one stands here.
-fn add_going_on(code: &mut Items<Instr>, spot: Spot<'_>, block: u32) -> Result<Behind, NoMemory> {
+fn emit_transfer(
+    code: &mut Items<Instr>,
+    spot: CodePosition<'_>,
+    block: u32,
+) -> Result<TableTail, NoMemory> {
     if !spot.is_target(block)? {
-        return Ok(Behind::Block(block));
+        return Ok(TableTail::Block(block));
     }
-    add_jump_to(code, spot, block)?;
-    Ok(Behind::Nothing)
+    emit_jump_to(code, spot, block)?;
+    Ok(TableTail::Nothing)
 }
 
 /// Adds what follows the test of a branch: a jump for a side that is a dispatch target, so that the other side goes on here.
-fn add_branch(
+fn emit_branch(
     alloc: Global,
     code: &mut Items<Instr>,
-    spot: Spot<'_>,
+    spot: CodePosition<'_>,
     yes: u32,
     no: u32,
-) -> Result<Behind, NoMemory> {
+) -> Result<TableTail, NoMemory> {
     if spot.is_target(yes)? {
-        add_jump_where(alloc, code, spot, yes)?;
-        return add_going_on(code, spot, no);
+        emit_jump_where(alloc, code, spot, yes)?;
+        return emit_transfer(code, spot, no);
     }
     if spot.is_target(no)? {
         code.push(Instr::Plain(opcode::I32_EQZ))?;
-        add_jump_where(alloc, code, spot, no)?;
-        return Ok(Behind::Block(yes));
+        emit_jump_where(alloc, code, spot, no)?;
+        return Ok(TableTail::Block(yes));
     }
-    Ok(Behind::Sides { yes, no })
+    Ok(TableTail::Sides { yes, no })
 }
 
 /// Adds a jump to a dispatch target, for where the test holds.
-fn add_jump_where(
+fn emit_jump_where(
     alloc: Global,
     code: &mut Items<Instr>,
-    spot: Spot<'_>,
+    spot: CodePosition<'_>,
     target: u32,
 ) -> Result<(), NoMemory> {
     if let Some(label) = spot.label_of(target) {
@@ -239,15 +243,19 @@ fn add_jump_where(
     }
     let inner = spot.around.further_in()?;
     let mut jump = Items::new(alloc);
-    add_jump(&mut jump, &inner, target)?;
+    emit_jump(&mut jump, &inner, target)?;
     code.push(Instr::if_of(alloc, None, jump, Items::new(alloc))?)?;
     Ok(())
 }
 
 /// Adds a jump to a dispatch target: back to its own loop, or to the dispatch.
-fn add_jump_to(code: &mut Items<Instr>, spot: Spot<'_>, target: u32) -> Result<(), NoMemory> {
+fn emit_jump_to(
+    code: &mut Items<Instr>,
+    spot: CodePosition<'_>,
+    target: u32,
+) -> Result<(), NoMemory> {
     match spot.label_of(target) {
         Some(label) => Ok(code.push(Instr::Br(label))?),
-        None => add_jump(code, &spot.around, target),
+        None => emit_jump(code, &spot.around, target),
     }
 }

@@ -2,9 +2,9 @@
 //! a span the function that does it, and behind them the functions of the other bodies that bound values call.
 
 use crate::places::Places;
-use crate::reached::Reached;
+use crate::reachability::Reachable;
 use crate::sums::{number, sum};
-use sa_emit_value::{Program, held};
+use sa_templates::{EmitProgram, held};
 use sqlite_items::Items;
 use std::alloc::Global;
 use std::mem;
@@ -22,7 +22,7 @@ pub(crate) fn tables(alloc: Global, places: &Places) -> Result<Items<Limits>, No
 
 /// The segments so far, and the functions of neighbouring places that aren't in one yet.
 #[derive(Drop)]
-struct Filled {
+struct SegmentBuilder {
     elems: Items<ElemSegment>,
     first: u32,
     funcs: Items<u32>,
@@ -31,11 +31,11 @@ struct Filled {
 /// The segments of the table: one for each run of neighbouring places.
 pub(crate) fn elements(
     alloc: Global,
-    program: Program<'_>,
-    reached: &Reached,
+    program: EmitProgram<'_>,
+    reached: &Reachable,
     places: &Places,
 ) -> Result<Items<ElemSegment>, NoMemory> {
-    let mut filled = Filled {
+    let mut filled = SegmentBuilder {
         elems: Items::new(alloc),
         first: 0,
         funcs: Items::new(alloc),
@@ -48,7 +48,7 @@ pub(crate) fn elements(
     }
     add_placed(alloc, &mut filled, program, places)?;
     filled.close(alloc)?;
-    let Filled {
+    let SegmentBuilder {
         elems,
         first: _,
         funcs: _,
@@ -59,8 +59,8 @@ pub(crate) fn elements(
 /// By place, the function of the signature's implementation that has it.
 fn implementations(
     alloc: Global,
-    program: Program<'_>,
-    reached: &Reached,
+    program: EmitProgram<'_>,
+    reached: &Reachable,
 ) -> Result<Vec<Option<u32>>, NoMemory> {
     let mut funcs = vec![in alloc; None; program.rows.size() as usize]?;
     for sig in 0..program.rows.signatures() {
@@ -74,7 +74,7 @@ fn implementations(
 /// Puts the functions of a signature's implementations at their places.
 fn add_signature(
     funcs: &mut Vec<Option<u32>>,
-    program: Program<'_>,
+    program: EmitProgram<'_>,
     sig: u32,
 ) -> Result<(), NoMemory> {
     for ty in program.rows.types(sig) {
@@ -86,15 +86,15 @@ fn add_signature(
 /// Puts the function of a signature's implementation for a type at its place, if it has one.
 fn add_implementation(
     funcs: &mut Vec<Option<u32>>,
-    program: Program<'_>,
+    program: EmitProgram<'_>,
     sig: u32,
     ty: u32,
 ) -> Result<(), NoMemory> {
     let Some(place) = program.rows.place(sig, ty) else {
         return Ok(());
     };
-    let row = held(program.rows.row(sig, ty))?;
-    let func = program.function_of(program.body_of_row(row)?)?;
+    let row = held(program.rows.implementation(sig, ty))?;
+    let func = program.function_of(program.body_of_implementation(row)?)?;
     *held(funcs.get_mut(place as usize))? = Some(func);
     Ok(())
 }
@@ -102,18 +102,18 @@ fn add_implementation(
 /// Adds the functions of the bodies behind those of the implementations.
 fn add_placed(
     alloc: Global,
-    filled: &mut Filled,
-    program: Program<'_>,
+    filled: &mut SegmentBuilder,
+    program: EmitProgram<'_>,
     places: &Places,
 ) -> Result<(), NoMemory> {
-    for (behind, body) in places.bodies.as_slice().iter().enumerate() {
-        let place = sum(places.first, number(behind)?)?;
+    for (following, body) in places.bodies.as_slice().iter().enumerate() {
+        let place = sum(places.first, number(following)?)?;
         filled.add(alloc, place, program.function_of(*body)?)?;
     }
     Ok(())
 }
 
-impl Filled {
+impl SegmentBuilder {
     /// Adds the function of a place, which is greater than those before it.
     fn add(&mut self, alloc: Global, place: u32, func: u32) -> Result<(), NoMemory> {
         if sum(self.first, number(self.funcs.len())?)? != place {

@@ -3,8 +3,8 @@
 
 use crate::predecessors::Predecessors;
 use crate::sums::number;
-use sa_emit_value::held;
-use sa_flat::{FlatBody, FlatExit};
+use sa_cfg::{CfgBody, Terminator};
+use sa_templates::held;
 use sqlite_items::Items;
 use std::alloc::Global;
 use wa_syntax::NoMemory;
@@ -26,7 +26,7 @@ pub(crate) struct DispatchTargets {
 /// A block that has been placed: the number of the dispatch target to whose superblock it belongs, and in how many branches it
 /// stands there.
 #[derive(Clone, Copy, Debug)]
-struct Place {
+struct BlockPlace {
     block: u32,
     target: u32,
     depth: u32,
@@ -38,13 +38,13 @@ struct Walk<'a> {
     predecessors: &'a [Predecessors],
     targets: DispatchTargets,
     /// The blocks that have been placed, while those behind them haven't.
-    waiting: Items<Place>,
+    waiting: Items<BlockPlace>,
 }
 
 /// The dispatch targets of a body: its first block, the blocks that jumps lead to, and those that would stand too deep.
 pub(crate) fn targets_of(
     alloc: Global,
-    body: &FlatBody,
+    body: &CfgBody,
     predecessors: &[Predecessors],
 ) -> Result<DispatchTargets, NoMemory> {
     let mut walk = begun(alloc, predecessors)?;
@@ -95,10 +95,10 @@ fn is_jumped_to(predecessors: Predecessors) -> bool {
 
 impl Walk<'_> {
     /// Places the blocks behind a block.
-    fn go_on(&mut self, exit: &FlatExit, from: Place) -> Result<(), NoMemory> {
+    fn go_on(&mut self, exit: &Terminator, from: BlockPlace) -> Result<(), NoMemory> {
         match exit {
-            FlatExit::Jump(to) => self.place(*to, from, from.depth),
-            FlatExit::Branch { test: _, yes, no } => {
+            Terminator::Jump(to) => self.place(*to, from, from.depth),
+            Terminator::Branch { test: _, yes, no } => {
                 let inside = self.depth_inside(*yes, *no, from.depth)?;
                 self.place(*yes, from, inside)?;
                 self.place(*no, from, from.depth)
@@ -116,7 +116,7 @@ impl Walk<'_> {
     }
 
     /// Places a block behind another one in so many branches, unless it is a dispatch target.
-    fn place(&mut self, block: u32, from: Place, depth: u32) -> Result<(), NoMemory> {
+    fn place(&mut self, block: u32, from: BlockPlace, depth: u32) -> Result<(), NoMemory> {
         if self.is_target(block)? {
             return self.add_jump(block, from.target);
         }
@@ -124,7 +124,7 @@ impl Walk<'_> {
             return self.add_target(block);
         }
         let target = from.target;
-        self.waiting.push(Place {
+        self.waiting.push(BlockPlace {
             block,
             target,
             depth,
@@ -159,7 +159,7 @@ impl Walk<'_> {
         self.targets.blocks.push(block)?;
         self.targets.repeats.push(false)?;
         let depth = 0;
-        self.waiting.push(Place {
+        self.waiting.push(BlockPlace {
             block,
             target,
             depth,

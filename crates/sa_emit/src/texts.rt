@@ -1,10 +1,10 @@
 //! The literal texts as they lie in memory when a program begins: one segment, with a text object for each.
 
-use crate::reached::Reached;
+use crate::reachability::Reachable;
 use crate::sums::number;
-use sa_flat::FlatProgram;
+use sa_ast::Name;
+use sa_cfg::CfgProgram;
 use sa_runtime::layout::{STR, TEXT, header};
-use sa_tree::Name;
 use sqlite_items::Items;
 use std::alloc::Global;
 use wa_syntax::{DataSegment, Init, NoMemory};
@@ -15,8 +15,8 @@ const WORD: usize = 8;
 /// The segment of the texts that are reached, from this address on: none where there are none.
 pub(crate) fn segments(
     alloc: Global,
-    flat: &FlatProgram,
-    reached: &Reached,
+    flat: &CfgProgram,
+    reached: &Reachable,
     texts_at: u32,
 ) -> Result<Items<DataSegment>, NoMemory> {
     let mut segments = Items::new(alloc);

@@ -2,18 +2,19 @@
 //! receiver follows, and then the arguments that are kept. Where the receiver's class chooses what is called, its place in the
 //! table stands in the high half of the receiver's word, since the receiver is an address then.
 
-use crate::dispatch::{Class, add_place, add_unreturned};
+use crate::dispatch::{ClassSource, emit_place, emit_unreturned};
 use crate::entry::{entry_words, given};
-use sa_emit_value::{
-    ARGUMENTS, Around, Handing, Widening, add_answers, add_any_span, add_fail_if, add_handed,
-    add_if, add_if_else, add_move, add_type_of, add_void_test, add_widened, held, spans_of,
-};
-use sa_flat::{BindEntry, CallPlan, Callee, Fail, FlatArg};
+use sa_cfg::{BoundLayout, CallOperand, CallOperation, CallTarget, FaultExit};
 use sa_runtime::fault_numbers::NO_ROOM;
 use sa_runtime::layout::{
-    ALLOCATE, BOUND, BOUND_CALL, HALF_BITS, RESULT, WIDENED_MARK, attribute_at, header,
+    ALLOCATE, BOUND, BOUND_CALL, BOXED_MARK, HALF_BITS, RESULT, attribute_at, header,
 };
-use sa_runtime::line::{Op, add_line};
+use sa_runtime::template_ops::{TemplateOp, emit_ops};
+use sa_templates::{
+    ARGUMENTS, Boxing, CallPhase, EmitContext, emit_any_range, emit_boxed, emit_fail_if, emit_if,
+    emit_if_else, emit_move, emit_results, emit_stored_args, emit_type_of, emit_void_test, held,
+    ranges_of,
+};
 use sqlite_items::Items;
 use std::alloc::Global;
 use wa_syntax::opcode::{
@@ -22,98 +23,101 @@ use wa_syntax::opcode::{
 use wa_syntax::{Instr, NoMemory};
 
 /// A bound value of an entry.
-pub fn add_bind(
+pub fn emit_bind(
     alloc: Global,
     code: &mut Items<Instr>,
-    around: &Around<'_>,
-    plan: &CallPlan,
+    around: &EmitContext<'_>,
+    plan: &CallOperation,
     entry: u32,
 ) -> Result<(), NoMemory> {
     let at = held(around.program.entries.get(entry as usize).copied())?;
     let entry = held(around.program.flat.binds.get(entry as usize))?;
-    if let Callee::Dispatch(sig) = entry.callee {
-        add_void_test(alloc, code, around, plan.recv, &plan.fail)?;
+    if let CallTarget::Dispatch(sig) = entry.callee {
+        emit_void_test(alloc, code, around, plan.recv, &plan.fail)?;
         if around.program.rows.types(sig).is_empty() {
-            return add_line(code, &[Op::Do(UNREACHABLE)]);
+            return emit_ops(code, &[TemplateOp::Do(UNREACHABLE)]);
         }
-        add_choice(alloc, code, around, plan.recv, sig)?;
+        emit_choice(alloc, code, around, plan.recv, sig)?;
     }
-    add_object(alloc, code, around, plan, entry, at)?;
-    add_receiver(code, around, plan.recv, entry)?;
-    add_kept(code, around, plan.args.as_slice())?;
-    add_entry(alloc, code, around, entry, at)?;
+    emit_object(alloc, code, around, plan, entry, at)?;
+    emit_receiver(code, around, plan.recv, entry)?;
+    emit_captured_args(code, around, plan.args.as_slice())?;
+    emit_entry(alloc, code, around, entry, at)?;
     let line = [
-        Op::Get(around.address()),
-        Op::Do(I64_EXTEND_I32_U),
+        TemplateOp::Get(around.address()),
+        TemplateOp::Do(I64_EXTEND_I32_U),
         around.put(plan.value),
     ];
-    add_line(code, &line)
+    emit_ops(code, &line)
 }
 
 /// Adds what puts the place of the body that the receiver's class chooses into the local of the status.
-fn add_choice(
+fn emit_choice(
     alloc: Global,
     code: &mut Items<Instr>,
-    around: &Around<'_>,
+    around: &EmitContext<'_>,
     recv: u32,
     sig: u32,
 ) -> Result<(), NoMemory> {
-    add_place(alloc, code, around, Class::Of(recv), sig)?;
-    add_line(code, &[Op::Set(around.status())])
+    emit_place(alloc, code, around, ClassSource::Of(recv), sig)?;
+    emit_ops(code, &[TemplateOp::Set(around.status())])
 }
 
 /// Adds what takes the room of the object, whose header names the words of the bind.
-fn add_object(
+fn emit_object(
     alloc: Global,
     code: &mut Items<Instr>,
-    around: &Around<'_>,
-    plan: &CallPlan,
-    entry: &BindEntry,
+    around: &EmitContext<'_>,
+    plan: &CallOperation,
+    entry: &BoundLayout,
     at: u32,
 ) -> Result<(), NoMemory> {
     let size = attribute_at(given(entry.open.as_slice()).saturating_add(1));
     let line = [
-        Op::I64(header(entry.ty, BOUND, at)),
-        Op::I64(u64::from(size)),
+        TemplateOp::I64(header(entry.ty, BOUND, at)),
+        TemplateOp::I64(u64::from(size)),
         around.runtime(ALLOCATE)?,
-        Op::Tee(around.address()),
-        Op::Do(I32_EQZ),
+        TemplateOp::Tee(around.address()),
+        TemplateOp::Do(I32_EQZ),
     ];
-    add_line(code, &line)?;
-    add_fail_if(alloc, code, around, Op::I32(NO_ROOM), &plan.fail)
+    emit_ops(code, &line)?;
+    emit_fail_if(alloc, code, around, TemplateOp::I32(NO_ROOM), &plan.fail)
 }
 
 /// Adds what keeps the receiver, with the place of what its class chose.
-fn add_receiver(
+fn emit_receiver(
     code: &mut Items<Instr>,
-    around: &Around<'_>,
+    around: &EmitContext<'_>,
     recv: u32,
-    entry: &BindEntry,
+    entry: &BoundLayout,
 ) -> Result<(), NoMemory> {
-    add_line(code, &[Op::Get(around.address()), around.operand(recv)])?;
-    if let Callee::Dispatch(_) = entry.callee {
+    emit_ops(
+        code,
+        &[TemplateOp::Get(around.address()), around.operand(recv)],
+    )?;
+    if let CallTarget::Dispatch(_) = entry.callee {
         let line = [
-            Op::Get(around.status()),
-            Op::Do(I64_EXTEND_I32_U),
-            Op::I64(HALF_BITS),
-            Op::Do(I64_SHL),
-            Op::Do(I64_OR),
+            TemplateOp::Get(around.status()),
+            TemplateOp::Do(I64_EXTEND_I32_U),
+            TemplateOp::I64(HALF_BITS),
+            TemplateOp::Do(I64_SHL),
+            TemplateOp::Do(I64_OR),
         ];
-        add_line(code, &line)?;
+        emit_ops(code, &line)?;
     }
-    add_line(code, &[Op::Memory(I64_STORE, attribute_at(0))])
+    emit_ops(code, &[TemplateOp::Memory(I64_STORE, attribute_at(0))])
 }
 
 /// Adds what keeps the arguments that are given, in their order.
-fn add_kept(
+fn emit_captured_args(
     code: &mut Items<Instr>,
-    around: &Around<'_>,
-    args: &[FlatArg],
+    around: &EmitContext<'_>,
+    args: &[CallOperand],
 ) -> Result<(), NoMemory> {
     let mut place = 1u32;
     for arg in args {
         if let Some(var) = arg.var {
-            add_attribute(code, around, var, place)?;
+            emit_attribute(code, around, var, place)?;
             place = place.saturating_add(1);
         }
     }
@@ -121,108 +125,112 @@ fn add_kept(
 }
 
 /// Adds what puts a variable into the object at the address.
-fn add_attribute(
+fn emit_attribute(
     code: &mut Items<Instr>,
-    around: &Around<'_>,
+    around: &EmitContext<'_>,
     var: u32,
     place: u32,
 ) -> Result<(), NoMemory> {
     let line = [
-        Op::Get(around.address()),
+        TemplateOp::Get(around.address()),
         around.operand(var),
-        Op::Memory(I64_STORE, attribute_at(place)),
+        TemplateOp::Memory(I64_STORE, attribute_at(place)),
     ];
-    add_line(code, &line)
+    emit_ops(code, &line)
 }
 
 /// Adds what writes the words of the bind. They are the same each time.
-fn add_entry(
+fn emit_entry(
     alloc: Global,
     code: &mut Items<Instr>,
-    around: &Around<'_>,
-    entry: &BindEntry,
+    around: &EmitContext<'_>,
+    entry: &BoundLayout,
     at: u32,
 ) -> Result<(), NoMemory> {
     let words = entry_words(alloc, around, entry)?;
     let mut next = at;
     for word in words.as_slice() {
-        let line = [Op::I32(0), Op::I64(*word), Op::Memory(I64_STORE, next)];
-        add_line(code, &line)?;
+        let line = [
+            TemplateOp::I32(0),
+            TemplateOp::I64(*word),
+            TemplateOp::Memory(I64_STORE, next),
+        ];
+        emit_ops(code, &line)?;
         next = held(next.checked_add(8))?;
     }
     Ok(())
 }
 
 /// A call of a bound value. One of a signature with more arguments than a feature has is of void alone.
-pub(crate) fn add_bound_call(
+pub(crate) fn emit_bound_call(
     alloc: Global,
     code: &mut Items<Instr>,
-    around: &Around<'_>,
-    plan: &CallPlan,
+    around: &EmitContext<'_>,
+    plan: &CallOperation,
 ) -> Result<(), NoMemory> {
-    add_void_test(alloc, code, around, plan.recv, &plan.fail)?;
+    emit_void_test(alloc, code, around, plan.recv, &plan.fail)?;
     if plan.args.len() > ARGUMENTS {
-        return add_line(code, &[Op::Do(UNREACHABLE)]);
+        return emit_ops(code, &[TemplateOp::Do(UNREACHABLE)]);
     }
-    add_handed(code, around, plan.args.as_slice(), Handing::AtStart)?;
+    emit_stored_args(code, around, plan.args.as_slice(), CallPhase::AtStart)?;
     let line = [
-        Op::Get(around.depth()),
-        Op::I32(0),
+        TemplateOp::Get(around.depth()),
+        TemplateOp::I32(0),
         around.operand(plan.recv),
-        Op::Do(I32_WRAP_I64),
+        TemplateOp::Do(I32_WRAP_I64),
         around.runtime(BOUND_CALL)?,
-        Op::Tee(around.status()),
+        TemplateOp::Tee(around.status()),
     ];
-    add_line(code, &line)?;
+    emit_ops(code, &line)?;
     let inner = around.further_in()?;
     let mut unreturned = Items::new(alloc);
-    add_unreturned(alloc, &mut unreturned, &inner, &plan.fail)?;
-    add_if(alloc, code, unreturned)?;
-    add_answers(code, around, plan.value, plan.args.as_slice())
+    emit_unreturned(alloc, &mut unreturned, &inner, &plan.fail)?;
+    emit_if(alloc, code, unreturned)?;
+    emit_results(code, around, plan.value, plan.args.as_slice())
 }
 
 /// The receiver of a bind, and the types of its class, rising, with which a given value is widened.
 #[derive(Clone, Copy)]
-pub struct Takers<'a> {
+pub struct BoxingReceivers<'a> {
     pub recv: u32,
     pub types: &'a [u32],
 }
 
 /// The value that a bind keeps for an argument: widened where the class of the receiver takes it so, else as it is.
-pub fn add_widen_for(
+pub fn emit_box_for(
     alloc: Global,
     code: &mut Items<Instr>,
-    around: &Around<'_>,
-    widening: Widening,
-    takers: Takers<'_>,
-    fail: &Fail,
+    around: &EmitContext<'_>,
+    widening: Boxing,
+    takers: BoxingReceivers<'_>,
+    fail: &FaultExit,
 ) -> Result<(), NoMemory> {
-    add_type_of(code, around, takers.recv)?;
-    add_line(code, &[Op::Set(around.address())])?;
-    add_any_span(code, around, spans_of(alloc, takers.types)?.as_slice())?;
+    emit_type_of(code, around, takers.recv)?;
+    emit_ops(code, &[TemplateOp::Set(around.address())])?;
+    emit_any_range(code, around, ranges_of(alloc, takers.types)?.as_slice())?;
     let inner = around.further_in()?;
     let mut widened = Items::new(alloc);
-    add_marked(alloc, &mut widened, &inner, widening, fail)?;
+    emit_marked_box(alloc, &mut widened, &inner, widening, fail)?;
     let mut same = Items::new(alloc);
-    add_move(&mut same, &inner, widening.to, widening.from)?;
-    add_if_else(alloc, code, widened, same)
+    emit_move(&mut same, &inner, widening.to, widening.from)?;
+    emit_if_else(alloc, code, widened, same)
 }
 
 /// Adds what widens a value and marks it.
-fn add_marked(
+fn emit_marked_box(
     alloc: Global,
     code: &mut Items<Instr>,
-    around: &Around<'_>,
-    widening: Widening,
-    fail: &Fail,
+    around: &EmitContext<'_>,
+    widening: Boxing,
+    fail: &FaultExit,
 ) -> Result<(), NoMemory> {
-    add_widened(code, around, widening.from, widening.ty)?;
-    add_fail_if(alloc, code, around, Op::Get(around.status()), fail)?;
+    emit_boxed(code, around, widening.from, widening.ty)?;
+    emit_fail_if(alloc, code, around, TemplateOp::Get(around.status()), fail)?;
     let line = [
-        Op::GetGlobal(RESULT),
-        Op::I64(WIDENED_MARK),
-        Op::Do(I64_OR),
-        Op::Set(around.local(widening.to)),
+        TemplateOp::GetGlobal(RESULT),
+        TemplateOp::I64(BOXED_MARK),
+        TemplateOp::Do(I64_OR),
+        TemplateOp::Set(around.local(widening.to)),
     ];
-    add_line(code, &line)
+    emit_ops(code, &line)
 }

@@ -1,14 +1,14 @@
 //! The words of a bind, which the call of its values reads: what is called, and which arguments the values keep.
 
 use crate::dispatch::{Implementations, implementations_of};
-use sa_emit_value::{Around, held, is_immutable, shared_at};
-use sa_flat::{BindEntry, Callee};
+use sa_cfg::{BoundLayout, CallTarget};
 use sa_prelude::BuiltinFeature;
 use sa_runtime::layout::{
-    CHOSEN_ITER, CHOSEN_MADE, CHOSEN_ROUTINE, FIRST_BOUND_BUILTIN, GET_OF_OBJECT, GET_OF_VALUE,
+    CHOSEN_ADAPTER, CHOSEN_ITER, CHOSEN_ROUTINE, FIRST_BOUND_BUILTIN, GET_OF_OBJECT, GET_OF_VALUE,
     GET_SHARED, ITER, ROUTINE, SET_OF_OBJECT, SET_OF_VALUE, SET_SHARED, attribute_at,
     first_element_at,
 };
+use sa_templates::{EmitContext, held, is_immutable, shared_at};
 use sqlite_items::Items;
 use std::alloc::Global;
 use wa_syntax::NoMemory;
@@ -18,7 +18,7 @@ const ARGUMENTS_A_WORD: usize = 8;
 
 /// What a bound value calls.
 #[derive(Clone, Copy)]
-struct Called {
+struct BoundTarget {
     /// The number of the form.
     kind: u32,
     /// The place in the table, of an attribute in its object, or of a shared in memory.
@@ -32,8 +32,8 @@ struct Called {
 /// `NoMemory`, also where a number of the entry is out of range.
 pub(crate) fn entry_words(
     alloc: Global,
-    around: &Around<'_>,
-    entry: &BindEntry,
+    around: &EmitContext<'_>,
+    entry: &BoundLayout,
 ) -> Result<Items<u64>, NoMemory> {
     let called = called_of(around, entry)?;
     let count = held(u32::try_from(entry.open.len()).ok())?;
@@ -74,34 +74,34 @@ pub(crate) fn given(open: &[bool]) -> u32 {
 }
 
 /// What the values of a bind call.
-fn called_of(around: &Around<'_>, entry: &BindEntry) -> Result<Called, NoMemory> {
+fn called_of(around: &EmitContext<'_>, entry: &BoundLayout) -> Result<BoundTarget, NoMemory> {
     match entry.callee {
-        Callee::Body(body) => body_called(around, body),
-        Callee::Dispatch(sig) => Ok(of_kind(chosen_kind(around, sig)?, 0)),
-        Callee::Builtin(feature) => {
+        CallTarget::Body(body) => body_called(around, body),
+        CallTarget::Dispatch(sig) => Ok(of_kind(chosen_kind(around, sig)?, 0)),
+        CallTarget::Builtin(feature) => {
             let kind = FIRST_BOUND_BUILTIN + u32::from(feature.number());
             Ok(of_kind(kind, 0))
         }
-        Callee::Get(place) => {
+        CallTarget::Get(place) => {
             let kind = of_object_or_value(around, entry, GET_OF_OBJECT, GET_OF_VALUE)?;
             Ok(of_kind(kind, attribute_at(place)))
         }
-        Callee::Set(place) => {
+        CallTarget::Set(place) => {
             let kind = of_object_or_value(around, entry, SET_OF_OBJECT, SET_OF_VALUE)?;
             Ok(of_kind(kind, attribute_at(place)))
         }
-        Callee::GetShared(shared) => Ok(of_kind(GET_SHARED, shared_at(shared)?)),
-        Callee::SetShared(shared) => Ok(of_kind(SET_SHARED, shared_at(shared)?)),
-        Callee::Bound => held(None),
+        CallTarget::GetShared(shared) => Ok(of_kind(GET_SHARED, shared_at(shared)?)),
+        CallTarget::SetShared(shared) => Ok(of_kind(SET_SHARED, shared_at(shared)?)),
+        CallTarget::Bound => held(None),
     }
 }
 
-fn of_kind(kind: u32, number: u32) -> Called {
-    Called { kind, number }
+fn of_kind(kind: u32, number: u32) -> BoundTarget {
+    BoundTarget { kind, number }
 }
 
 /// The body of a feature, by its place in the table.
-fn body_called(around: &Around<'_>, body: u32) -> Result<Called, NoMemory> {
+fn body_called(around: &EmitContext<'_>, body: u32) -> Result<BoundTarget, NoMemory> {
     let place = placed(around, body)?;
     let kind = if is_iter(around, body)? {
         ITER
@@ -112,36 +112,36 @@ fn body_called(around: &Around<'_>, body: u32) -> Result<Called, NoMemory> {
 }
 
 /// The place of a body in the table. The answer is `NoMemory` where no bind calls it through the table.
-pub(crate) fn placed(around: &Around<'_>, body: u32) -> Result<u32, NoMemory> {
+pub(crate) fn placed(around: &EmitContext<'_>, body: u32) -> Result<u32, NoMemory> {
     let place = held(around.program.places.get(body as usize).copied())?;
     held(place)
 }
 
 /// The form of what the receiver's class chooses. The implementations of a signature are alike in it, so the first one tells.
 /// Where there is none, no value is made.
-fn chosen_kind(around: &Around<'_>, sig: u32) -> Result<u32, NoMemory> {
+fn chosen_kind(around: &EmitContext<'_>, sig: u32) -> Result<u32, NoMemory> {
     let Some(first) = around.program.rows.first(sig) else {
         return Ok(CHOSEN_ROUTINE);
     };
-    if implementations_of(around, sig)? == Implementations::Made {
-        return Ok(CHOSEN_MADE);
+    if implementations_of(around, sig)? == Implementations::Adapters {
+        return Ok(CHOSEN_ADAPTER);
     }
-    let number = around.program.body_of_row(first)?;
+    let number = around.program.body_of_implementation(first)?;
     if is_iter(around, number)? {
         return Ok(CHOSEN_ITER);
     }
     Ok(CHOSEN_ROUTINE)
 }
 
-fn is_iter(around: &Around<'_>, number: u32) -> Result<bool, NoMemory> {
+fn is_iter(around: &EmitContext<'_>, number: u32) -> Result<bool, NoMemory> {
     let body = around.program.body(number)?;
     Ok(body.iter)
 }
 
 /// One form for objects, and another for immutable values.
 fn of_object_or_value(
-    around: &Around<'_>,
-    entry: &BindEntry,
+    around: &EmitContext<'_>,
+    entry: &BoundLayout,
     object: u32,
     value: u32,
 ) -> Result<u32, NoMemory> {
@@ -152,17 +152,17 @@ fn of_object_or_value(
 }
 
 /// What has to be known of the class: where the elements of its objects begin, or how many attributes its values have.
-fn first_of(around: &Around<'_>, entry: &BindEntry) -> Result<u32, NoMemory> {
+fn first_of(around: &EmitContext<'_>, entry: &BoundLayout) -> Result<u32, NoMemory> {
     match entry.callee {
-        Callee::Builtin(feature) => first_of_builtin(around, entry.class, feature),
-        Callee::Set(_) => around.attributes(entry.class),
+        CallTarget::Builtin(feature) => first_of_builtin(around, entry.class, feature),
+        CallTarget::Set(_) => around.attributes(entry.class),
         _ => Ok(0),
     }
 }
 
 /// Where elements begin that a built-in feature reads, writes or makes.
 fn first_of_builtin(
-    around: &Around<'_>,
+    around: &EmitContext<'_>,
     class: u32,
     feature: BuiltinFeature,
 ) -> Result<u32, NoMemory> {

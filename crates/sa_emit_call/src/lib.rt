@@ -9,8 +9,9 @@ mod calls;
 mod dispatch;
 mod entry;
 
-pub use binding::{Takers, add_bind, add_widen_for};
-pub use calls::{add_call, add_deeper, add_depth_test, add_too_deep};
+pub use binding::{BoxingReceivers, emit_bind, emit_box_for};
+pub use calls::{emit_call, emit_deeper, emit_depth_test, emit_too_deep};
 pub use dispatch::{
-    Choice, Class, Implementations, add_chosen, add_handed_on_fault, implementations_of,
+    ClassSource, DispatchedCall, Implementations, emit_chosen_call, emit_forwarded_fault,
+    implementations_of,
 };

@@ -1,36 +1,38 @@
 //! Steps of bodies that were made for an implementation by an iter. Such a body is no activation: it takes the frame of the
 //! instance at a start, hands it out, and runs the iter's body on it, at the depth of its caller.
 
-use crate::frames::add_is_frame;
-use crate::outcome::{Instance, add_is_raised, add_is_suspended, add_quit};
-use sa_emit_call::{add_deeper, add_too_deep};
-use sa_emit_value::{Around, Handing, add_answers, add_handed_on, add_if, add_if_else, add_passed};
-use sa_flat::FlatArg;
+use crate::frames::emit_is_frame;
+use crate::outcome::{InstanceState, emit_is_raised, emit_is_suspended, emit_quit};
+use sa_cfg::CallOperand;
+use sa_emit_call::{emit_deeper, emit_too_deep};
 use sa_runtime::fault_numbers::{TOO_DEEP, TOO_MANY_FRAMES};
 use sa_runtime::layout::{END_FRAME, FRAME_OUT, NEW_FRAME, RAISED};
-use sa_runtime::line::{Op, add_line};
-use sa_runtime::trace::{self, Event};
+use sa_runtime::template_ops::{TemplateOp, emit_ops};
+use sa_runtime::trace::{self, TraceEvent};
+use sa_templates::{
+    CallPhase, EmitContext, emit_args, emit_forward, emit_if, emit_if_else, emit_results,
+};
 use sqlite_items::Items;
 use std::alloc::Global;
 use wa_syntax::opcode::{I32_EQZ, RETURN};
 use wa_syntax::{Instr, NoMemory};
 
 /// Whether the instance has a frame already.
-pub(crate) fn add_has_frame(
+pub(crate) fn emit_has_frame(
     code: &mut Items<Instr>,
-    around: &Around<'_>,
+    around: &EmitContext<'_>,
     to: u32,
 ) -> Result<(), NoMemory> {
-    add_is_frame(code, around, to, around.frame())
+    emit_is_frame(code, around, to, around.frame())
 }
 
 /// The step that takes the frame of the instance at a start, and runs the iter's body on it.
 #[derive(Clone, Copy)]
-pub(crate) struct Entering<'a> {
+pub(crate) struct EnterStep<'a> {
     pub body: u32,
     /// The variable with the instance's own object.
     pub recv: u32,
-    pub args: &'a [FlatArg],
+    pub args: &'a [CallOperand],
     /// The variable that gets what is yielded.
     pub value: Option<u32>,
     /// The variable that tells afterwards whether the instance has ended.
@@ -38,75 +40,95 @@ pub(crate) struct Entering<'a> {
 }
 
 /// Takes the frame of the instance at a start, and runs the iter's body on it.
-pub(crate) fn add_enter(
+pub(crate) fn emit_enter(
     alloc: Global,
     code: &mut Items<Instr>,
-    around: &Around<'_>,
-    entering: &Entering<'_>,
+    around: &EmitContext<'_>,
+    entering: &EnterStep<'_>,
 ) -> Result<(), NoMemory> {
     let func = around.program.function_of(entering.body)?;
-    add_too_deep(code, around)?;
-    add_handed_on_if(alloc, code, TOO_DEEP)?;
+    emit_too_deep(code, around)?;
+    emit_forward_if(alloc, code, TOO_DEEP)?;
     let (frame, status) = (around.frame(), around.status());
-    add_frame(alloc, code, around)?;
-    add_passed(code, around, entering.args, Handing::AtStart)?;
-    add_line(code, &[around.operand(entering.recv)])?;
-    add_deeper(code, around, Op::Get(frame))?;
-    add_line(code, &[Op::Call(func), Op::Tee(status)])?;
-    trace::add_outcome(code, around.program.tracing, frame, status)?;
+    emit_frame(alloc, code, around)?;
+    emit_args(code, around, entering.args, CallPhase::AtStart)?;
+    emit_ops(code, &[around.operand(entering.recv)])?;
+    emit_deeper(code, around, TemplateOp::Get(frame))?;
+    emit_ops(code, &[TemplateOp::Call(func), TemplateOp::Tee(status)])?;
+    trace::emit_outcome(code, around.program.tracing, frame, status)?;
     let inner = around.further_in()?;
     let mut suspended = Items::new(alloc);
-    add_suspended(&mut suspended, &inner, entering)?;
+    emit_iter_suspension(&mut suspended, &inner, entering)?;
     let mut ended = Items::new(alloc);
-    add_ended(alloc, &mut ended, &inner, entering.quit)?;
-    add_is_suspended(code)?;
-    add_if_else(alloc, code, suspended, ended)
+    emit_iter_end(alloc, &mut ended, &inner, entering.quit)?;
+    emit_is_suspended(code)?;
+    emit_if_else(alloc, code, suspended, ended)
 }
 
 /// Adds what hands a fault to the caller where the operand isn't 0.
-fn add_handed_on_if(alloc: Global, code: &mut Items<Instr>, kind: u32) -> Result<(), NoMemory> {
+fn emit_forward_if(alloc: Global, code: &mut Items<Instr>, kind: u32) -> Result<(), NoMemory> {
     let mut fault = Items::new(alloc);
-    add_handed_on(&mut fault, Op::I32(kind))?;
-    add_if(alloc, code, fault)
+    emit_forward(&mut fault, TemplateOp::I32(kind))?;
+    emit_if(alloc, code, fault)
 }
 
 /// Adds what takes a frame where the instance has none, and else tells that it goes on.
-fn add_frame(alloc: Global, code: &mut Items<Instr>, around: &Around<'_>) -> Result<(), NoMemory> {
+fn emit_frame(
+    alloc: Global,
+    code: &mut Items<Instr>,
+    around: &EmitContext<'_>,
+) -> Result<(), NoMemory> {
     let frame = around.frame();
     let tracing = around.program.tracing;
     let mut start = Items::new(alloc);
-    let line = [around.runtime(NEW_FRAME)?, Op::Tee(frame), Op::Do(I32_EQZ)];
-    add_line(&mut start, &line)?;
-    add_handed_on_if(alloc, &mut start, TOO_MANY_FRAMES)?;
-    trace::add_event(&mut start, tracing, frame, Event::Start)?;
+    let line = [
+        around.runtime(NEW_FRAME)?,
+        TemplateOp::Tee(frame),
+        TemplateOp::Do(I32_EQZ),
+    ];
+    emit_ops(&mut start, &line)?;
+    emit_forward_if(alloc, &mut start, TOO_MANY_FRAMES)?;
+    trace::emit_event(&mut start, tracing, frame, TraceEvent::Start)?;
     let mut resumption = Items::new(alloc);
-    trace::add_event(&mut resumption, tracing, frame, Event::Resume)?;
-    add_line(code, &[Op::Get(frame), Op::Do(I32_EQZ)])?;
-    add_if_else(alloc, code, start, resumption)
+    trace::emit_event(&mut resumption, tracing, frame, TraceEvent::Resume)?;
+    emit_ops(code, &[TemplateOp::Get(frame), TemplateOp::Do(I32_EQZ)])?;
+    emit_if_else(alloc, code, start, resumption)
 }
 
 /// Adds what follows a suspension: the frame goes to the site.
-fn add_suspended(
+fn emit_iter_suspension(
     code: &mut Items<Instr>,
-    around: &Around<'_>,
-    entering: &Entering<'_>,
+    around: &EmitContext<'_>,
+    entering: &EnterStep<'_>,
 ) -> Result<(), NoMemory> {
-    add_line(code, &[Op::Get(around.frame()), Op::SetGlobal(FRAME_OUT)])?;
-    add_answers(code, around, entering.value, entering.args)?;
-    add_quit(code, around, entering.quit, Instance::Suspended)
+    emit_ops(
+        code,
+        &[
+            TemplateOp::Get(around.frame()),
+            TemplateOp::SetGlobal(FRAME_OUT),
+        ],
+    )?;
+    emit_results(code, around, entering.value, entering.args)?;
+    emit_quit(code, around, entering.quit, InstanceState::Suspended)
 }
 
 /// Adds what follows the end of the instance: a raise goes to the caller.
-fn add_ended(
+fn emit_iter_end(
     alloc: Global,
     code: &mut Items<Instr>,
-    around: &Around<'_>,
+    around: &EmitContext<'_>,
     quit: u32,
 ) -> Result<(), NoMemory> {
-    add_line(code, &[Op::Get(around.frame()), around.runtime(END_FRAME)?])?;
+    emit_ops(
+        code,
+        &[TemplateOp::Get(around.frame()), around.runtime(END_FRAME)?],
+    )?;
     let mut raise = Items::new(alloc);
-    add_line(&mut raise, &[Op::I32(RAISED), Op::Do(RETURN)])?;
-    add_is_raised(code, around)?;
-    add_if(alloc, code, raise)?;
-    add_quit(code, around, quit, Instance::Ended)
+    emit_ops(
+        &mut raise,
+        &[TemplateOp::I32(RAISED), TemplateOp::Do(RETURN)],
+    )?;
+    emit_is_raised(code, around)?;
+    emit_if(alloc, code, raise)?;
+    emit_quit(code, around, quit, InstanceState::Ended)
 }

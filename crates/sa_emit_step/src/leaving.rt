@@ -1,12 +1,12 @@
 //! The exits that leave a body.
 
-use crate::suspension::add_suspend;
-use sa_emit_value::{Around, Role, add_copies_back, add_fail};
-use sa_flat::FlatExit;
+use crate::suspension::emit_suspend;
+use sa_cfg::Terminator;
 use sa_runtime::layout::{
     ENDED, EXCEPTION, EXCEPTION_KIND, EXCEPTION_PLACE, RAISED, RESULT, RETURNED,
 };
-use sa_runtime::line::{Op, add_line};
+use sa_runtime::template_ops::{TemplateOp, emit_ops};
+use sa_templates::{EmitContext, Role, emit_copies_out, emit_fail};
 use sqlite_items::Items;
 use std::alloc::Global;
 use wa_syntax::opcode::{I32_WRAP_I64, RETURN};
@@ -17,24 +17,29 @@ use wa_syntax::{Instr, NoMemory};
 /// # Errors
 ///
 /// `NoMemory`, also for exits that stay in the body.
-pub fn add_leaving(
+pub fn emit_leaving(
     alloc: Global,
     code: &mut Items<Instr>,
-    around: &Around<'_>,
-    exit: &FlatExit,
+    around: &EmitContext<'_>,
+    exit: &Terminator,
 ) -> Result<(), NoMemory> {
     match exit {
-        FlatExit::Return { value } => add_return(code, around, *value),
-        FlatExit::Quit => add_line(code, &[Op::I32(ENDED), Op::Do(RETURN)]),
-        FlatExit::Raise { value, place, kind } => {
-            add_raise_out(code, around, *value, *place, *kind)
+        Terminator::Return { value } => emit_return(code, around, *value),
+        Terminator::Quit => emit_ops(code, &[TemplateOp::I32(ENDED), TemplateOp::Do(RETURN)]),
+        Terminator::Raise { value, place, kind } => {
+            emit_raise_out(code, around, *value, *place, *kind)
         }
-        FlatExit::Stop { kind, fail } => {
-            add_fail(code, around, Op::I32(u32::from(kind.number())), fail)
+        Terminator::Fault { kind, fail } => {
+            emit_fail(
+                code,
+                around,
+                TemplateOp::I32(u32::from(kind.number())),
+                fail,
+            )
         }
-        FlatExit::Suspend { value, resume } => add_suspend(alloc, code, around, *value, *resume),
-        FlatExit::Jump(_) => Err(stays()),
-        FlatExit::Branch { .. } => Err(stays()),
+        Terminator::Suspend { value, resume } => emit_suspend(alloc, code, around, *value, *resume),
+        Terminator::Jump(_) => Err(stays()),
+        Terminator::Branch { .. } => Err(stays()),
     }
 }
 
@@ -44,52 +49,52 @@ fn stays() -> NoMemory {
 }
 
 /// A return with a value.
-fn add_return(
+fn emit_return(
     code: &mut Items<Instr>,
-    around: &Around<'_>,
+    around: &EmitContext<'_>,
     value: Option<u32>,
 ) -> Result<(), NoMemory> {
-    add_copies_back(code, around.body)?;
-    add_returned(code, around, value)?;
-    add_line(code, &[Op::I32(RETURNED), Op::Do(RETURN)])
+    emit_copies_out(code, around.body)?;
+    emit_return_value(code, around, value)?;
+    emit_ops(code, &[TemplateOp::I32(RETURNED), TemplateOp::Do(RETURN)])
 }
 
 /// Adds what sets the result. The last body always has one, since it is the status of the program.
-fn add_returned(
+fn emit_return_value(
     code: &mut Items<Instr>,
-    around: &Around<'_>,
+    around: &EmitContext<'_>,
     value: Option<u32>,
 ) -> Result<(), NoMemory> {
     if let Some(var) = value {
-        let line = [around.operand(var), Op::SetGlobal(RESULT)];
-        return add_line(code, &line);
+        let line = [around.operand(var), TemplateOp::SetGlobal(RESULT)];
+        return emit_ops(code, &line);
     }
     match around.role {
-        Role::Last => add_line(code, &[Op::I64(0), Op::SetGlobal(RESULT)]),
+        Role::Entry => emit_ops(code, &[TemplateOp::I64(0), TemplateOp::SetGlobal(RESULT)]),
         Role::Feature => Ok(()),
-        Role::Made => Ok(()),
+        Role::Adapter => Ok(()),
     }
 }
 
 /// A raise out of the body.
-fn add_raise_out(
+fn emit_raise_out(
     code: &mut Items<Instr>,
-    around: &Around<'_>,
+    around: &EmitContext<'_>,
     value: u32,
     place: u32,
     kind: u32,
 ) -> Result<(), NoMemory> {
     let line = [
         around.operand(value),
-        Op::SetGlobal(EXCEPTION),
+        TemplateOp::SetGlobal(EXCEPTION),
         around.operand(place),
-        Op::Do(I32_WRAP_I64),
-        Op::SetGlobal(EXCEPTION_PLACE),
+        TemplateOp::Do(I32_WRAP_I64),
+        TemplateOp::SetGlobal(EXCEPTION_PLACE),
         around.operand(kind),
-        Op::Do(I32_WRAP_I64),
-        Op::SetGlobal(EXCEPTION_KIND),
-        Op::I32(RAISED),
-        Op::Do(RETURN),
+        TemplateOp::Do(I32_WRAP_I64),
+        TemplateOp::SetGlobal(EXCEPTION_KIND),
+        TemplateOp::I32(RAISED),
+        TemplateOp::Do(RETURN),
     ];
-    add_line(code, &line)
+    emit_ops(code, &line)
 }

@@ -9,6 +9,8 @@ mod sites;
 mod step;
 mod suspension;
 
-pub use leaving::add_leaving;
-pub use step::add_step;
-pub use suspension::{add_begun, add_entered, add_suspension, add_taken_up};
+pub use leaving::emit_leaving;
+pub use step::emit_step;
+pub use suspension::{
+    emit_entry_prologue, emit_resume_prologue, emit_start_prologue, emit_suspension,
+};

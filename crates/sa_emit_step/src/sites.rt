@@ -3,57 +3,59 @@
 //! The order at a start is: the fault of a void receiver, then that of the depth, then that of too many instances, then the
 //! arguments are handed down. A resumption reads neither the receiver nor the arguments that are `once`.
 
-use crate::frames::add_new_frame;
-use crate::outcome::{Called, Site, add_resumed, add_started};
+use crate::frames::emit_new_frame;
+use crate::outcome::{SiteOperands, SiteTarget, emit_after_resume, emit_after_start};
+use sa_cfg::{CallOperation, CallTarget};
 use sa_emit_call::{
-    Choice, Class, Implementations, add_chosen, add_deeper, add_depth_test, implementations_of,
+    ClassSource, DispatchedCall, Implementations, emit_chosen_call, emit_deeper, emit_depth_test,
+    implementations_of,
 };
-use sa_emit_value::{
-    ARGUMENTS, Around, Handing, add_handed, add_passed, add_type_of, add_void_test, parameters,
-};
-use sa_flat::{CallPlan, Callee};
 use sa_runtime::layout::{BOUND_CALL, CALLED_AT};
-use sa_runtime::line::{Op, add_line};
-use sa_runtime::trace::{Event, add_event, add_starting_site};
+use sa_runtime::template_ops::{TemplateOp, emit_ops};
+use sa_runtime::trace::{TraceEvent, emit_event, emit_starting_site};
+use sa_templates::{
+    ARGUMENTS, CallPhase, EmitContext, emit_args, emit_stored_args, emit_type_of, emit_void_test,
+    parameters,
+};
 use sqlite_items::Items;
 use std::alloc::Global;
 use wa_syntax::opcode::{I32_LOAD, I32_WRAP_I64, UNREACHABLE};
 use wa_syntax::{Instr, NoMemory};
 
 /// Starts an instance at a site.
-pub(crate) fn add_start(
+pub(crate) fn emit_start(
     alloc: Global,
     code: &mut Items<Instr>,
-    around: &Around<'_>,
+    around: &EmitContext<'_>,
     number: u32,
-    plan: &CallPlan,
+    plan: &CallOperation,
     quit: u32,
 ) -> Result<(), NoMemory> {
     let site = site_of(around, number, plan, quit);
     let place = around.place_of_site(number)?;
-    add_starting_site(code, around.program.tracing, place)?;
+    emit_starting_site(code, around.program.tracing, place)?;
     match plan.callee {
-        Callee::Body(body) => add_body_start(alloc, code, around, &site, body),
-        Callee::Dispatch(sig) => add_dispatched_start(alloc, code, around, &site, sig),
-        Callee::Bound => add_bound_start(alloc, code, around, &site),
+        CallTarget::Body(body) => emit_body_start(alloc, code, around, &site, body),
+        CallTarget::Dispatch(sig) => emit_dispatched_start(alloc, code, around, &site, sig),
+        CallTarget::Bound => emit_bound_start(alloc, code, around, &site),
         _ => Err(no_iter()),
     }
 }
 
 /// Resumes the instance at a site.
-pub(crate) fn add_resume(
+pub(crate) fn emit_resume(
     alloc: Global,
     code: &mut Items<Instr>,
-    around: &Around<'_>,
+    around: &EmitContext<'_>,
     number: u32,
-    plan: &CallPlan,
+    plan: &CallOperation,
     quit: u32,
 ) -> Result<(), NoMemory> {
     let site = site_of(around, number, plan, quit);
     match plan.callee {
-        Callee::Body(body) => add_body_resume(alloc, code, around, &site, body),
-        Callee::Dispatch(sig) => add_dispatched_resume(alloc, code, around, &site, sig),
-        Callee::Bound => add_bound_resume(alloc, code, around, &site),
+        CallTarget::Body(body) => emit_body_resume(alloc, code, around, &site, body),
+        CallTarget::Dispatch(sig) => emit_dispatched_resume(alloc, code, around, &site, sig),
+        CallTarget::Bound => emit_bound_resume(alloc, code, around, &site),
         _ => Err(no_iter()),
     }
 }
@@ -63,8 +65,13 @@ fn no_iter() -> NoMemory {
     NoMemory
 }
 
-fn site_of<'a>(around: &Around<'_>, number: u32, plan: &'a CallPlan, quit: u32) -> Site<'a> {
-    Site {
+fn site_of<'a>(
+    around: &EmitContext<'_>,
+    number: u32,
+    plan: &'a CallOperation,
+    quit: u32,
+) -> SiteOperands<'a> {
+    SiteOperands {
         number,
         frame: around.site(number),
         plan,
@@ -73,62 +80,66 @@ fn site_of<'a>(around: &Around<'_>, number: u32, plan: &'a CallPlan, quit: u32) 
 }
 
 /// A start of the body of a feature.
-fn add_body_start(
+fn emit_body_start(
     alloc: Global,
     code: &mut Items<Instr>,
-    around: &Around<'_>,
-    site: &Site<'_>,
+    around: &EmitContext<'_>,
+    site: &SiteOperands<'_>,
     body: u32,
 ) -> Result<(), NoMemory> {
     let func = around.program.function_of(body)?;
-    add_new_frame(alloc, code, around, site)?;
-    add_all(code, around, site)?;
-    add_deeper(code, around, Op::Get(site.frame))?;
-    add_line(code, &[Op::Call(func)])?;
-    add_started(alloc, code, around, site, Called::Body)
+    emit_new_frame(alloc, code, around, site)?;
+    emit_all_args(code, around, site)?;
+    emit_deeper(code, around, TemplateOp::Get(site.frame))?;
+    emit_ops(code, &[TemplateOp::Call(func)])?;
+    emit_after_start(alloc, code, around, site, SiteTarget::Body)
 }
 
 /// A resumption of the body of a feature.
-fn add_body_resume(
+fn emit_body_resume(
     alloc: Global,
     code: &mut Items<Instr>,
-    around: &Around<'_>,
-    site: &Site<'_>,
+    around: &EmitContext<'_>,
+    site: &SiteOperands<'_>,
     body: u32,
 ) -> Result<(), NoMemory> {
     let func = around.program.function_of(body)?;
-    add_depth_test(alloc, code, around, &site.plan.fail)?;
-    add_event(code, around.program.tracing, site.frame, Event::Resume)?;
-    add_all_but_once(code, around, site)?;
-    add_deeper(code, around, Op::Get(site.frame))?;
-    add_line(code, &[Op::Call(func)])?;
-    add_resumed(alloc, code, around, site, Called::Body)
+    emit_depth_test(alloc, code, around, &site.plan.fail)?;
+    emit_event(code, around.program.tracing, site.frame, TraceEvent::Resume)?;
+    emit_args_but_once(code, around, site)?;
+    emit_deeper(code, around, TemplateOp::Get(site.frame))?;
+    emit_ops(code, &[TemplateOp::Call(func)])?;
+    emit_after_resume(alloc, code, around, site, SiteTarget::Body)
 }
 
 /// A start of the implementation of a signature.
-fn add_dispatched_start(
+fn emit_dispatched_start(
     alloc: Global,
     code: &mut Items<Instr>,
-    around: &Around<'_>,
-    site: &Site<'_>,
+    around: &EmitContext<'_>,
+    site: &SiteOperands<'_>,
     sig: u32,
 ) -> Result<(), NoMemory> {
     let plan = site.plan;
-    add_void_test(alloc, code, around, plan.recv, &plan.fail)?;
+    emit_void_test(alloc, code, around, plan.recv, &plan.fail)?;
     if around.program.rows.types(sig).is_empty() {
-        return add_line(code, &[Op::Do(UNREACHABLE)]);
+        return emit_ops(code, &[TemplateOp::Do(UNREACHABLE)]);
     }
-    let choice = choice_of(around, site, sig)?;
+    let choice = dispatched_call_of(around, site, sig)?;
     match choice.implementations {
-        Implementations::Features => add_feature_start(alloc, code, around, site, choice),
-        Implementations::Made => add_made_start(alloc, code, around, site, choice),
+        Implementations::Features => emit_feature_start(alloc, code, around, site, choice),
+        Implementations::Adapters => emit_adapter_start(alloc, code, around, site, choice),
     }
 }
 
 /// The choice among the implementations of a signature by the class in `ADDRESS`.
-fn choice_of(around: &Around<'_>, site: &Site<'_>, sig: u32) -> Result<Choice, NoMemory> {
-    Ok(Choice {
-        class: Class::InAddress,
+fn dispatched_call_of(
+    around: &EmitContext<'_>,
+    site: &SiteOperands<'_>,
+    sig: u32,
+) -> Result<DispatchedCall, NoMemory> {
+    Ok(DispatchedCall {
+        class: ClassSource::InAddress,
         sig,
         implementations: implementations_of(around, sig)?,
         parameters: parameters(site.plan.args.as_slice()),
@@ -136,162 +147,172 @@ fn choice_of(around: &Around<'_>, site: &Site<'_>, sig: u32) -> Result<Choice, N
 }
 
 /// A start of one of the bodies of features.
-fn add_feature_start(
+fn emit_feature_start(
     alloc: Global,
     code: &mut Items<Instr>,
-    around: &Around<'_>,
-    site: &Site<'_>,
-    choice: Choice,
+    around: &EmitContext<'_>,
+    site: &SiteOperands<'_>,
+    choice: DispatchedCall,
 ) -> Result<(), NoMemory> {
-    let frame = Op::Get(site.frame);
-    add_new_frame(alloc, code, around, site)?;
-    add_all(code, around, site)?;
-    add_class_of(code, around, site)?;
-    add_chosen(alloc, code, around, choice, frame)?;
-    add_started(alloc, code, around, site, Called::Feature)
+    let frame = TemplateOp::Get(site.frame);
+    emit_new_frame(alloc, code, around, site)?;
+    emit_all_args(code, around, site)?;
+    emit_class_of(code, around, site)?;
+    emit_chosen_call(alloc, code, around, choice, frame)?;
+    emit_after_start(alloc, code, around, site, SiteTarget::Feature)
 }
 
 /// A start of one of the bodies that were made for the implementations alone. The body takes the frame.
-fn add_made_start(
+fn emit_adapter_start(
     alloc: Global,
     code: &mut Items<Instr>,
-    around: &Around<'_>,
-    site: &Site<'_>,
-    choice: Choice,
+    around: &EmitContext<'_>,
+    site: &SiteOperands<'_>,
+    choice: DispatchedCall,
 ) -> Result<(), NoMemory> {
-    let frame = Op::I32(0);
-    add_all(code, around, site)?;
-    add_class_of(code, around, site)?;
-    add_chosen(alloc, code, around, choice, frame)?;
-    add_started(alloc, code, around, site, Called::Made)
+    let frame = TemplateOp::I32(0);
+    emit_all_args(code, around, site)?;
+    emit_class_of(code, around, site)?;
+    emit_chosen_call(alloc, code, around, choice, frame)?;
+    emit_after_start(alloc, code, around, site, SiteTarget::Adapter)
 }
 
 /// A resumption of the implementation of a signature. The class that chose it stands in the frame.
-fn add_dispatched_resume(
+fn emit_dispatched_resume(
     alloc: Global,
     code: &mut Items<Instr>,
-    around: &Around<'_>,
-    site: &Site<'_>,
+    around: &EmitContext<'_>,
+    site: &SiteOperands<'_>,
     sig: u32,
 ) -> Result<(), NoMemory> {
     if around.program.rows.types(sig).is_empty() {
-        return add_line(code, &[Op::Do(UNREACHABLE)]);
+        return emit_ops(code, &[TemplateOp::Do(UNREACHABLE)]);
     }
-    let choice = choice_of(around, site, sig)?;
+    let choice = dispatched_call_of(around, site, sig)?;
     match choice.implementations {
-        Implementations::Features => add_feature_resume(alloc, code, around, site, choice),
-        Implementations::Made => add_made_resume(alloc, code, around, site, choice),
+        Implementations::Features => emit_feature_resume(alloc, code, around, site, choice),
+        Implementations::Adapters => emit_adapter_resume(alloc, code, around, site, choice),
     }
 }
 
 /// A resumption of one of the bodies of features.
-fn add_feature_resume(
+fn emit_feature_resume(
     alloc: Global,
     code: &mut Items<Instr>,
-    around: &Around<'_>,
-    site: &Site<'_>,
-    choice: Choice,
+    around: &EmitContext<'_>,
+    site: &SiteOperands<'_>,
+    choice: DispatchedCall,
 ) -> Result<(), NoMemory> {
-    let frame = Op::Get(site.frame);
-    add_depth_test(alloc, code, around, &site.plan.fail)?;
-    add_event(code, around.program.tracing, site.frame, Event::Resume)?;
-    add_all_but_once(code, around, site)?;
-    add_called(code, site)?;
-    add_line(code, &[Op::Set(around.address())])?;
-    add_chosen(alloc, code, around, choice, frame)?;
-    add_resumed(alloc, code, around, site, Called::Feature)
+    let frame = TemplateOp::Get(site.frame);
+    emit_depth_test(alloc, code, around, &site.plan.fail)?;
+    emit_event(code, around.program.tracing, site.frame, TraceEvent::Resume)?;
+    emit_args_but_once(code, around, site)?;
+    emit_called_load(code, site)?;
+    emit_ops(code, &[TemplateOp::Set(around.address())])?;
+    emit_chosen_call(alloc, code, around, choice, frame)?;
+    emit_after_resume(alloc, code, around, site, SiteTarget::Feature)
 }
 
 /// A resumption of one of the bodies that were made for the implementations alone.
-fn add_made_resume(
+fn emit_adapter_resume(
     alloc: Global,
     code: &mut Items<Instr>,
-    around: &Around<'_>,
-    site: &Site<'_>,
-    choice: Choice,
+    around: &EmitContext<'_>,
+    site: &SiteOperands<'_>,
+    choice: DispatchedCall,
 ) -> Result<(), NoMemory> {
-    let frame = Op::Get(site.frame);
-    add_all_but_once(code, around, site)?;
-    add_called(code, site)?;
-    add_line(code, &[Op::Set(around.address())])?;
-    add_chosen(alloc, code, around, choice, frame)?;
-    add_resumed(alloc, code, around, site, Called::Made)
+    let frame = TemplateOp::Get(site.frame);
+    emit_args_but_once(code, around, site)?;
+    emit_called_load(code, site)?;
+    emit_ops(code, &[TemplateOp::Set(around.address())])?;
+    emit_chosen_call(alloc, code, around, choice, frame)?;
+    emit_after_resume(alloc, code, around, site, SiteTarget::Adapter)
 }
 
 /// A start of a bound value.
-fn add_bound_start(
+fn emit_bound_start(
     alloc: Global,
     code: &mut Items<Instr>,
-    around: &Around<'_>,
-    site: &Site<'_>,
+    around: &EmitContext<'_>,
+    site: &SiteOperands<'_>,
 ) -> Result<(), NoMemory> {
     let plan = site.plan;
-    add_void_test(alloc, code, around, plan.recv, &plan.fail)?;
+    emit_void_test(alloc, code, around, plan.recv, &plan.fail)?;
     if plan.args.len() > ARGUMENTS {
-        return add_line(code, &[Op::Do(UNREACHABLE)]);
+        return emit_ops(code, &[TemplateOp::Do(UNREACHABLE)]);
     }
-    add_handed(code, around, plan.args.as_slice(), Handing::AtStart)?;
+    emit_stored_args(code, around, plan.args.as_slice(), CallPhase::AtStart)?;
     let line = [
-        Op::Get(around.depth()),
-        Op::I32(0),
+        TemplateOp::Get(around.depth()),
+        TemplateOp::I32(0),
         around.operand(plan.recv),
-        Op::Do(I32_WRAP_I64),
+        TemplateOp::Do(I32_WRAP_I64),
         around.runtime(BOUND_CALL)?,
     ];
-    add_line(code, &line)?;
-    add_started(alloc, code, around, site, Called::Bound)
+    emit_ops(code, &line)?;
+    emit_after_start(alloc, code, around, site, SiteTarget::Bound)
 }
 
 /// A resumption of a bound value, whose address stands in the frame.
-fn add_bound_resume(
+fn emit_bound_resume(
     alloc: Global,
     code: &mut Items<Instr>,
-    around: &Around<'_>,
-    site: &Site<'_>,
+    around: &EmitContext<'_>,
+    site: &SiteOperands<'_>,
 ) -> Result<(), NoMemory> {
     if site.plan.args.len() > ARGUMENTS {
-        return add_line(code, &[Op::Do(UNREACHABLE)]);
+        return emit_ops(code, &[TemplateOp::Do(UNREACHABLE)]);
     }
     let args = site.plan.args.as_slice();
-    add_handed(code, around, args, Handing::AtResumption)?;
-    add_line(code, &[Op::Get(around.depth()), Op::Get(site.frame)])?;
-    add_called(code, site)?;
-    add_line(code, &[around.runtime(BOUND_CALL)?])?;
-    add_resumed(alloc, code, around, site, Called::Bound)
+    emit_stored_args(code, around, args, CallPhase::AtResumption)?;
+    emit_ops(
+        code,
+        &[TemplateOp::Get(around.depth()), TemplateOp::Get(site.frame)],
+    )?;
+    emit_called_load(code, site)?;
+    emit_ops(code, &[around.runtime(BOUND_CALL)?])?;
+    emit_after_resume(alloc, code, around, site, SiteTarget::Bound)
 }
 
 /// Adds the arguments and the receiver of a start.
-fn add_all(code: &mut Items<Instr>, around: &Around<'_>, site: &Site<'_>) -> Result<(), NoMemory> {
+fn emit_all_args(
+    code: &mut Items<Instr>,
+    around: &EmitContext<'_>,
+    site: &SiteOperands<'_>,
+) -> Result<(), NoMemory> {
     let plan = site.plan;
-    add_passed(code, around, plan.args.as_slice(), Handing::AtStart)?;
-    add_line(code, &[around.operand(plan.recv)])
+    emit_args(code, around, plan.args.as_slice(), CallPhase::AtStart)?;
+    emit_ops(code, &[around.operand(plan.recv)])
 }
 
 /// Adds the arguments of a resumption, and 0 for the receiver, which isn't read.
-fn add_all_but_once(
+fn emit_args_but_once(
     code: &mut Items<Instr>,
-    around: &Around<'_>,
-    site: &Site<'_>,
+    around: &EmitContext<'_>,
+    site: &SiteOperands<'_>,
 ) -> Result<(), NoMemory> {
     let args = site.plan.args.as_slice();
-    add_passed(code, around, args, Handing::AtResumption)?;
-    add_line(code, &[Op::I64(0)])
+    emit_args(code, around, args, CallPhase::AtResumption)?;
+    emit_ops(code, &[TemplateOp::I64(0)])
 }
 
 /// Adds what puts the number of the receiver's class into `ADDRESS`, where it stays over the call.
-fn add_class_of(
+fn emit_class_of(
     code: &mut Items<Instr>,
-    around: &Around<'_>,
-    site: &Site<'_>,
+    around: &EmitContext<'_>,
+    site: &SiteOperands<'_>,
 ) -> Result<(), NoMemory> {
-    add_type_of(code, around, site.plan.recv)?;
-    add_line(code, &[Op::Set(around.address())])
+    emit_type_of(code, around, site.plan.recv)?;
+    emit_ops(code, &[TemplateOp::Set(around.address())])
 }
 
 /// Adds what the frame tells of the start: the number of the receiver's class, or the address of the bound value.
-fn add_called(code: &mut Items<Instr>, site: &Site<'_>) -> Result<(), NoMemory> {
-    add_line(
+fn emit_called_load(code: &mut Items<Instr>, site: &SiteOperands<'_>) -> Result<(), NoMemory> {
+    emit_ops(
         code,
-        &[Op::Get(site.frame), Op::Memory(I32_LOAD, CALLED_AT)],
+        &[
+            TemplateOp::Get(site.frame),
+            TemplateOp::Memory(I32_LOAD, CALLED_AT),
+        ],
     )
 }

@@ -1,16 +1,17 @@
 //! One step, as the instructions that its own function adds.
 
-use crate::entering::{Entering, add_enter, add_has_frame};
-use crate::frames::{add_has_entry, add_release};
-use crate::sites::{add_resume, add_start};
-use sa_emit_call::{Takers, add_bind, add_call, add_widen_for};
-use sa_emit_value::{
-    Around, NewArray, Widening, add_const, add_init_shared, add_is_void, add_me, add_move, add_new,
-    add_new_array, add_put_item, add_type_is, add_unwrap, add_void_test, add_widen,
-};
-use sa_flat::{FlatStep, Raised};
+use crate::entering::{EnterStep, emit_enter, emit_has_frame};
+use crate::frames::{emit_has_instance, emit_release};
+use crate::sites::{emit_resume, emit_start};
+use sa_cfg::{CfgOperation, Handler};
+use sa_emit_call::{BoxingReceivers, emit_bind, emit_box_for, emit_call};
 use sa_runtime::fault_numbers::UNCAUGHT;
-use sa_runtime::line::{Op, add_line};
+use sa_runtime::template_ops::{TemplateOp, emit_ops};
+use sa_templates::{
+    Boxing, EmitContext, NewArray, emit_box, emit_const, emit_init_shared, emit_is_void, emit_move,
+    emit_new, emit_new_array, emit_self, emit_set_element, emit_type_is, emit_unbox,
+    emit_void_test,
+};
 use sqlite_items::Items;
 use std::alloc::Global;
 use wa_syntax::{Instr, NoMemory};
@@ -20,20 +21,20 @@ use wa_syntax::{Instr, NoMemory};
 /// # Errors
 ///
 /// `NoMemory`, also where a number of the step is out of range.
-pub fn add_step(
+pub fn emit_step(
     alloc: Global,
     code: &mut Items<Instr>,
-    around: &Around<'_>,
-    step: &FlatStep,
+    around: &EmitContext<'_>,
+    step: &CfgOperation,
 ) -> Result<(), NoMemory> {
     match step {
-        FlatStep::Const { to, value } => add_const(code, around, *to, value),
-        FlatStep::Move { to, from } => add_move(code, around, *to, *from),
-        FlatStep::Me { to } => add_me(code, around, *to),
-        FlatStep::IsVoid { to, from } => add_is_void(code, around, *to, *from),
-        FlatStep::Turn => Ok(()),
-        FlatStep::New { to, ty, fail } => add_new(alloc, code, around, *to, *ty, fail),
-        FlatStep::NewArray {
+        CfgOperation::Const { to, value } => emit_const(code, around, *to, value),
+        CfgOperation::Move { to, from } => emit_move(code, around, *to, *from),
+        CfgOperation::SelfRef { to } => emit_self(code, around, *to),
+        CfgOperation::IsVoid { to, from } => emit_is_void(code, around, *to, *from),
+        CfgOperation::Turn => Ok(()),
+        CfgOperation::New { to, ty, fail } => emit_new(alloc, code, around, *to, *ty, fail),
+        CfgOperation::NewArray {
             to,
             ty,
             count,
@@ -44,24 +45,28 @@ pub fn add_step(
                 ty: *ty,
                 count: *count,
             };
-            add_new_array(alloc, code, around, array, fail)
+            emit_new_array(alloc, code, around, array, fail)
         }
-        FlatStep::PutItem {
+        CfgOperation::SetElement {
             array,
             ty,
             at,
             value,
-        } => add_put_item(code, around, *array, *ty, *at, *value),
-        FlatStep::Widen { to, from, ty, fail } => {
-            add_widen(alloc, code, around, widening(*to, *from, *ty), fail)
+        } => emit_set_element(code, around, *array, *ty, *at, *value),
+        CfgOperation::Box { to, from, ty, fail } => {
+            emit_box(alloc, code, around, boxing_of(*to, *from, *ty), fail)
         }
-        FlatStep::Unwrap { to, from, ty } => add_unwrap(code, around, *to, *from, *ty),
-        FlatStep::TypeIs { to, from, ty } => add_type_is(code, around, *to, *from, *ty),
-        FlatStep::NotVoid { from, fail } => add_void_test(alloc, code, around, *from, fail),
-        FlatStep::InitShared { shared, from } => add_init_shared(code, around, *shared, *from),
-        FlatStep::Call { plan } => add_call(alloc, code, around, plan),
-        FlatStep::Raising { value, place, to } => add_raising(code, around, *value, *place, to),
-        FlatStep::WidenFor {
+        CfgOperation::Unbox { to, from, ty } => emit_unbox(code, around, *to, *from, *ty),
+        CfgOperation::TypeIs { to, from, ty } => emit_type_is(code, around, *to, *from, *ty),
+        CfgOperation::CheckNotVoid { from, fail } => emit_void_test(
+            alloc, code, around, *from, fail,
+        ),
+        CfgOperation::InitShared { shared, from } => emit_init_shared(code, around, *shared, *from),
+        CfgOperation::Call { plan } => emit_call(alloc, code, around, plan),
+        CfgOperation::SetException { value, place, to } => emit_set_exception(
+            code, around, *value, *place, to,
+        ),
+        CfgOperation::BoxFor {
             to,
             from,
             ty,
@@ -69,61 +74,68 @@ pub fn add_step(
             types,
             fail,
         } => {
-            let takers = Takers {
+            let takers = BoxingReceivers {
                 recv: *recv,
                 types: types.as_slice(),
             };
-            add_widen_for(alloc, code, around, widening(*to, *from, *ty), takers, fail)
+            emit_box_for(
+                alloc,
+                code,
+                around,
+                boxing_of(*to, *from, *ty),
+                takers,
+                fail,
+            )
         }
-        FlatStep::Bind { plan, entry } => add_bind(alloc, code, around, plan, *entry),
-        FlatStep::HasEntry { to, site } => add_has_entry(code, around, *to, *site),
-        FlatStep::Start { site, plan, quit } => {
-            add_start(alloc, code, around, *site, plan, *quit)
+        CfgOperation::Bind { plan, entry } => emit_bind(alloc, code, around, plan, *entry),
+        CfgOperation::HasInstance { to, site } => emit_has_instance(code, around, *to, *site),
+        CfgOperation::Start { site, plan, quit } => {
+            emit_start(alloc, code, around, *site, plan, *quit)
         }
-        FlatStep::Resume { site, plan, quit } => {
-            add_resume(alloc, code, around, *site, plan, *quit)
+        CfgOperation::Resume { site, plan, quit } => {
+            emit_resume(alloc, code, around, *site, plan, *quit)
         }
-        FlatStep::HasFrame { to } => add_has_frame(code, around, *to),
-        FlatStep::Enter {
+        CfgOperation::HasFrame { to } => emit_has_frame(code, around, *to),
+        CfgOperation::Enter {
             body,
             recv,
             args,
             value,
             quit,
         } => {
-            let entering = Entering {
+            let entering = EnterStep {
                 body: *body,
                 recv: *recv,
                 args: args.as_slice(),
                 value: *value,
                 quit: *quit,
             };
-            add_enter(alloc, code, around, &entering)
+            emit_enter(alloc, code, around, &entering)
         }
-        FlatStep::Release { sites } => add_release(alloc, code, around, sites.as_slice()),
+        CfgOperation::Release { sites } => emit_release(alloc, code, around, sites.as_slice()),
     }
 }
 
 /// The widening of a value of the immutable class `ty` into a variable.
-fn widening(to: u32, from: u32, ty: u32) -> Widening {
-    Widening { to, from, ty }
+fn boxing_of(to: u32, from: u32, ty: u32) -> Boxing {
+    Boxing { to, from, ty }
 }
 
 /// Sets the variables of a raise by the statement `raise` at a place.
-fn add_raising(
+fn emit_set_exception(
     code: &mut Items<Instr>,
-    around: &Around<'_>,
+    around: &EmitContext<'_>,
     value: u32,
     place: u32,
-    to: &Raised,
+    to: &Handler,
 ) -> Result<(), NoMemory> {
     let line = [
         around.operand(value),
-        Op::Set(around.local(to.value)),
-        Op::I64(u64::from(place)),
-        Op::Set(around.local(to.place)),
-        Op::I64(u64::from(UNCAUGHT)),
-        Op::Set(around.local(to.kind)),
+        TemplateOp::Set(around.local(to.value)),
+        TemplateOp::I64(u64::from(place)),
+        TemplateOp::Set(around.local(to.place)),
+        TemplateOp::I64(u64::from(UNCAUGHT)),
+        TemplateOp::Set(around.local(to.kind)),
     ];
-    add_line(code, &line)
+    emit_ops(code, &line)
 }

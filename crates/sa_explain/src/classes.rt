@@ -1,15 +1,20 @@
 //! Classes and their headers: E08, E10, E12, E13, E19, E24; and their features: E11, E16, E20, E22.
 
 use crate::library::library_file;
-use sa_explain_scene::{
-    Part, Quality, Said, Scene, class_near, count_in, feature_in, feature_near, plain_name,
+use sa_ast::{Class, ClassKind, Feature, FeatureBody as FeaturePart, NoMemory, Rule, Ty};
+use sa_diagnostics::{
+    Message, MessagePart, Quality, SourceContext, class_near, count_in, feature_in, feature_near,
+    plain_name,
 };
-use sa_lex::{Sign, TokenKind};
-use sa_tree::{Class, Feature, Kind, NoMemory, Part as FeaturePart, Rule, Ty};
+use sa_lexer::{Sign, TokenKind};
 use std::alloc::AllocError;
 
 /// Says what is wrong with the class at the place.
-pub(crate) fn about_class(scene: Scene<'_>, rule: Rule, said: &mut Said) -> Result<(), NoMemory> {
+pub(crate) fn about_class(
+    scene: SourceContext<'_>,
+    rule: Rule,
+    said: &mut Message,
+) -> Result<(), NoMemory> {
     match rule {
         Rule::WordNotTaken => refused_word(scene, said)?,
         Rule::ClassDefinedTwice => defined_twice(scene, said)?,
@@ -23,9 +28,9 @@ pub(crate) fn about_class(scene: Scene<'_>, rule: Rule, said: &mut Said) -> Resu
 
 /// Says what is wrong with the feature at the place.
 pub(crate) fn about_features(
-    scene: Scene<'_>,
+    scene: SourceContext<'_>,
     rule: Rule,
-    said: &mut Said,
+    said: &mut Message,
 ) -> Result<(), NoMemory> {
     match rule {
         Rule::FeaturesConflict => conflict(scene, said)?,
@@ -36,10 +41,10 @@ pub(crate) fn about_features(
     Ok(())
 }
 
-fn refused_word(scene: Scene<'_>, said: &mut Said) -> Result<(), AllocError> {
+fn refused_word(scene: SourceContext<'_>, said: &mut Message) -> Result<(), AllocError> {
     said.say(&[
-        Part::Code(scene.name()),
-        Part::Words(
+        MessagePart::Code(scene.name()),
+        MessagePart::Words(
             " is a word of parallel Sather, which this compiler doesn't take, so it is no name either.",
         ),
     ])?;
@@ -47,7 +52,7 @@ fn refused_word(scene: Scene<'_>, said: &mut Said) -> Result<(), AllocError> {
 }
 
 /// A class whose name another one has.
-fn defined_twice(scene: Scene<'_>, said: &mut Said) -> Result<(), AllocError> {
+fn defined_twice(scene: SourceContext<'_>, said: &mut Message) -> Result<(), AllocError> {
     let name = scene.name();
     let Some(first) = scene.table.class(name) else {
         return Ok(());
@@ -55,24 +60,24 @@ fn defined_twice(scene: Scene<'_>, said: &mut Said) -> Result<(), AllocError> {
     let pos = first.name.pos;
     if pos.file == 0 {
         said.say(&[
-            Part::Code(name),
-            Part::Words(" is a class of the prelude, which every program has."),
+            MessagePart::Code(name),
+            MessagePart::Words(" is a class of the prelude, which every program has."),
         ])?;
     } else {
         said.say(&[
-            Part::Code(name),
-            Part::Words(" is defined in "),
-            Part::File(scene.table.file(pos)),
-            Part::Words(":"),
-            Part::Number(scene.table.line(pos)),
-            Part::Words(" too."),
+            MessagePart::Code(name),
+            MessagePart::Words(" is defined in "),
+            MessagePart::File(scene.table.file(pos)),
+            MessagePart::Words(":"),
+            MessagePart::Number(scene.table.line(pos)),
+            MessagePart::Words(" too."),
         ])?;
     }
     said.say_words("Give this class another name.")
 }
 
 /// The class that is meant at the place: behind `#`, before `::`, or there.
-fn class_token(scene: Scene<'_>) -> usize {
+fn class_token(scene: SourceContext<'_>) -> usize {
     if scene.tokens.is_sign(scene.at, Sign::Hash) {
         return scene.at.saturating_add(1);
     }
@@ -83,7 +88,7 @@ fn class_token(scene: Scene<'_>) -> usize {
 }
 
 /// A type whose class isn't there, or can't stand there.
-fn not_usable(scene: Scene<'_>, said: &mut Said) -> Result<(), AllocError> {
+fn not_usable(scene: SourceContext<'_>, said: &mut Message) -> Result<(), AllocError> {
     let at = class_token(scene);
     let name = scene.tokens.bytes(at);
     if !matches!(
@@ -100,27 +105,29 @@ fn not_usable(scene: Scene<'_>, said: &mut Said) -> Result<(), AllocError> {
 }
 
 /// A class that is there, and can't stand at the place.
-fn kept_out(scene: Scene<'_>, class: &Class, said: &mut Said) -> Result<(), AllocError> {
+fn kept_out(scene: SourceContext<'_>, class: &Class, said: &mut Message) -> Result<(), AllocError> {
     let name = class.name.name.as_slice();
     match class.kind {
-        Kind::Partial => {
+        ClassKind::Partial => {
             said.say(&[
-                Part::Code(name),
-                Part::Words(" is partial: it is there to be included, and is no type."),
+                MessagePart::Code(name),
+                MessagePart::Words(" is partial: it is there to be included, and is no type."),
             ])?;
             said.say_words("Write a class that includes it, and use that.")
         }
-        Kind::Abstract => {
+        ClassKind::Abstract => {
             said.say(&[
-                Part::Code(name),
-                Part::Words(" is abstract: it has no objects and no code, and isn't included."),
+                MessagePart::Code(name),
+                MessagePart::Words(
+                    " is abstract: it has no objects and no code, and isn't included.",
+                ),
             ])?;
             said.say_words("Write a class that stands below it.")
         }
         _ => {
             said.say(&[
-                Part::Code(name),
-                Part::Words(" is a class, but it can't stand here."),
+                MessagePart::Code(name),
+                MessagePart::Words(" is a class, but it can't stand here."),
             ])?;
             said.say_words(
                 "The classes BOOL, INT, CHAR, STR, OUT, IN and SYS aren't included, and a parameter hides a class of its name.",
@@ -130,29 +137,33 @@ fn kept_out(scene: Scene<'_>, class: &Class, said: &mut Said) -> Result<(), Allo
 }
 
 /// A name that no class has.
-fn unknown_class<'a>(scene: Scene<'a>, name: &'a [u8], said: &mut Said) -> Result<(), AllocError> {
+fn unknown_class<'a>(
+    scene: SourceContext<'a>,
+    name: &'a [u8],
+    said: &mut Message,
+) -> Result<(), AllocError> {
     said.say(&[
-        Part::Words("There is no class "),
-        Part::Code(name),
-        Part::Words("."),
+        MessagePart::Words("There is no class "),
+        MessagePart::Code(name),
+        MessagePart::Words("."),
     ])?;
     if let Some(remedy) = known_elsewhere(name) {
         return said.say_words(remedy);
     }
     if let Some(file) = library_file(name) {
         return said.say(&[
-            Part::Words("The library has it: write `sather lib "),
-            Part::Words(file),
-            Part::Words(" > "),
-            Part::Words(file),
-            Part::Words(".sa`, and name this file in the command too."),
+            MessagePart::Words("The library has it: write `sather lib "),
+            MessagePart::Words(file),
+            MessagePart::Words(" > "),
+            MessagePart::Words(file),
+            MessagePart::Words(".sa`, and name this file in the command too."),
         ]);
     }
     match class_near(scene, name)? {
         Some(near) => said.say(&[
-            Part::Words("Did you mean "),
-            Part::Code(near),
-            Part::Words("?"),
+            MessagePart::Words("Did you mean "),
+            MessagePart::Code(near),
+            MessagePart::Words("?"),
         ]),
         None => said.say_words("Write it, or name its file in the command beside this one."),
     }
@@ -183,7 +194,7 @@ fn known_elsewhere(name: &[u8]) -> Option<&'static str> {
 }
 
 /// A type with too many or too few parameters.
-fn parameter_count(scene: Scene<'_>, said: &mut Said) -> Result<(), AllocError> {
+fn parameter_count(scene: SourceContext<'_>, said: &mut Message) -> Result<(), AllocError> {
     let at = class_token(scene);
     let Some(class) = scene.table.class(scene.tokens.bytes(at)) else {
         return Ok(());
@@ -192,58 +203,65 @@ fn parameter_count(scene: Scene<'_>, said: &mut Said) -> Result<(), AllocError> 
     said.mark = scene.span(at);
     match class.params.as_slice() {
         [] => {
-            said.say(&[Part::Code(name), Part::Words(" has no parameters.")])?;
             said.say(&[
-                Part::Words("Write "),
-                Part::Code(name),
-                Part::Words(" alone."),
+                MessagePart::Code(name),
+                MessagePart::Words(" has no parameters."),
+            ])?;
+            said.say(&[
+                MessagePart::Words("Write "),
+                MessagePart::Code(name),
+                MessagePart::Words(" alone."),
             ])
         }
         [_] => {
             said.say(&[
-                Part::Code(name),
-                Part::Words(" has one parameter, and becomes a type by one type between braces."),
+                MessagePart::Code(name),
+                MessagePart::Words(
+                    " has one parameter, and becomes a type by one type between braces.",
+                ),
             ])?;
             said.say(&[
-                Part::Words("Write it so, as `"),
-                Part::Plain(name),
-                Part::Words("{INT}`."),
+                MessagePart::Words("Write it so, as `"),
+                MessagePart::Plain(name),
+                MessagePart::Words("{INT}`."),
             ])
         }
         params => {
             said.say(&[
-                Part::Code(name),
-                Part::Words(" has "),
-                Part::Number(params.len()),
-                Part::Words(" parameters, and becomes a type by as many types between braces."),
+                MessagePart::Code(name),
+                MessagePart::Words(" has "),
+                MessagePart::Number(params.len()),
+                MessagePart::Words(
+                    " parameters, and becomes a type by as many types between braces.",
+                ),
             ])?;
             said.say_words("Write a type for each, with commas between them.")
         }
     }
 }
 
-fn not_abstract(scene: Scene<'_>, said: &mut Said) -> Result<(), AllocError> {
+fn not_abstract(scene: SourceContext<'_>, said: &mut Message) -> Result<(), AllocError> {
     let name = scene.name();
     said.say(&[
-        Part::Code(name),
-        Part::Words(" isn't abstract, and only abstract classes have types below them."),
+        MessagePart::Code(name),
+        MessagePart::Words(" isn't abstract, and only abstract classes have types below them."),
     ])?;
     said.say(&[
-        Part::Words("To take over its code write `include "),
-        Part::Plain(name),
-        Part::Words(";` in this class."),
+        MessagePart::Words("To take over its code write `include "),
+        MessagePart::Plain(name),
+        MessagePart::Words(";` in this class."),
     ])
 }
 
 /// A program without a routine to begin at.
-fn no_main(scene: Scene<'_>, said: &mut Said) -> Result<(), AllocError> {
+fn no_main(scene: SourceContext<'_>, said: &mut Message) -> Result<(), AllocError> {
     let Some(class) = scene.table.class(b"MAIN".as_slice()) else {
         said.say_words("There is no class MAIN, at whose routine `main` a program begins.")?;
         return said.say_words(
             "Write `class MAIN is main is .. end; end;`, or name its file in the command.",
         );
     };
-    if class.kind != Kind::Reference || !class.params.is_empty() {
+    if class.kind != ClassKind::Reference || !class.params.is_empty() {
         said.say_words("MAIN is neither immutable nor partial, and has no parameters.")?;
         return said.say_words("Write `class MAIN is`.");
     }
@@ -259,10 +277,10 @@ fn no_main(scene: Scene<'_>, said: &mut Said) -> Result<(), AllocError> {
 
 /// A `main` that can't be run.
 fn main_of_another_form(
-    scene: Scene<'_>,
+    scene: SourceContext<'_>,
     class: &Class,
     main: &Feature,
-    said: &mut Said,
+    said: &mut Message,
 ) -> Result<(), AllocError> {
     if count_in(class, b"main".as_slice(), Quality::Any) > 1 {
         said.say_words(
@@ -289,7 +307,7 @@ fn main_of_another_form(
 }
 
 /// A feature that another one of its class can't be told from.
-fn conflict(scene: Scene<'_>, said: &mut Said) -> Result<(), AllocError> {
+fn conflict(scene: SourceContext<'_>, said: &mut Message) -> Result<(), AllocError> {
     let Some(class) = scene.table.class_at(scene.pos) else {
         return Ok(());
     };
@@ -301,12 +319,12 @@ fn conflict(scene: Scene<'_>, said: &mut Said) -> Result<(), AllocError> {
         return Ok(());
     }
     said.say(&[
-        Part::Plain(class.name.name.as_slice()),
-        Part::Words(" has a feature "),
-        Part::Code(name),
-        Part::Words(" in line "),
-        Part::Number(scene.table.line(first.name.pos)),
-        Part::Words(
+        MessagePart::Plain(class.name.name.as_slice()),
+        MessagePart::Words(" has a feature "),
+        MessagePart::Code(name),
+        MessagePart::Words(" in line "),
+        MessagePart::Number(scene.table.line(first.name.pos)),
+        MessagePart::Words(
             " too, and no call could tell features of one name and the same arguments apart.",
         ),
     ])?;
@@ -316,7 +334,7 @@ fn conflict(scene: Scene<'_>, said: &mut Said) -> Result<(), AllocError> {
 }
 
 /// A change of a feature that isn't there.
-fn no_such_change(scene: Scene<'_>, said: &mut Said) -> Result<(), AllocError> {
+fn no_such_change(scene: SourceContext<'_>, said: &mut Message) -> Result<(), AllocError> {
     let from_iter = matches!(scene.tokens.kind(scene.at), Some(TokenKind::IterName));
     let to = scene.at.saturating_add(2);
     if scene.tokens.is_feature_name(to)
@@ -328,15 +346,17 @@ fn no_such_change(scene: Scene<'_>, said: &mut Said) -> Result<(), AllocError> {
         return said.say_words("Write both names of a change with `!`, or none.");
     }
     said.say(&[
-        Part::Words("What is included has no feature "),
-        Part::Code(scene.name()),
-        Part::Words(", which is the left name of this change."),
+        MessagePart::Words("What is included has no feature "),
+        MessagePart::Code(scene.name()),
+        MessagePart::Words(", which is the left name of this change."),
     ])?;
     match feature_near(scene, scene.name())? {
         Some(near) => said.say(&[
-            Part::Words("Did you mean "),
-            Part::Code(near),
-            Part::Words("? The old name stands on the left of `->`, the new one on its right."),
+            MessagePart::Words("Did you mean "),
+            MessagePart::Code(near),
+            MessagePart::Words(
+                "? The old name stands on the left of `->`, the new one on its right.",
+            ),
         ]),
         None => said.say_words(
             "The old name stands on the left of `->`, the new one on its right.",
@@ -344,31 +364,31 @@ fn no_such_change(scene: Scene<'_>, said: &mut Said) -> Result<(), AllocError> {
     }
 }
 
-fn stub_left(scene: Scene<'_>, said: &mut Said) -> Result<(), AllocError> {
+fn stub_left(scene: SourceContext<'_>, said: &mut Message) -> Result<(), AllocError> {
     let Some(class) = scene.table.class_at(scene.pos) else {
         return Ok(());
     };
     said.say(&[
-        Part::Code(scene.name()),
-        Part::Words(" is a stub of "),
-        Part::Plain(class.name.name.as_slice()),
-        Part::Words(", and a class that isn't partial has it without a body."),
+        MessagePart::Code(scene.name()),
+        MessagePart::Words(" is a stub of "),
+        MessagePart::Plain(class.name.name.as_slice()),
+        MessagePart::Words(", and a class that isn't partial has it without a body."),
     ])?;
     said.say(&[
-        Part::Words("Write "),
-        Part::Code(scene.name()),
-        Part::Words(" in the class that includes "),
-        Part::Plain(class.name.name.as_slice()),
-        Part::Words("."),
+        MessagePart::Words("Write "),
+        MessagePart::Code(scene.name()),
+        MessagePart::Words(" in the class that includes "),
+        MessagePart::Plain(class.name.name.as_slice()),
+        MessagePart::Words("."),
     ])
 }
 
 /// A class that lacks a feature of an abstract one above it.
-fn lacking_feature(scene: Scene<'_>, said: &mut Said) -> Result<(), AllocError> {
+fn lacking_feature(scene: SourceContext<'_>, said: &mut Message) -> Result<(), AllocError> {
     let Some(class) = scene.table.class(scene.name()) else {
         return Ok(());
     };
-    if !class.includes.is_empty() || class.kind == Kind::Abstract {
+    if !class.includes.is_empty() || class.kind == ClassKind::Abstract {
         return Ok(());
     }
     for above in class.below.as_slice() {
@@ -404,24 +424,26 @@ fn says_lacking<'a>(
     class: &'a Class,
     above: &'a Class,
     wanted: &'a Feature,
-    said: &mut Said,
+    said: &mut Message,
 ) -> Result<(), AllocError> {
     let name = wanted.name.name.as_slice();
     said.say(&[
-        Part::Plain(class.name.name.as_slice()),
-        Part::Words(" has no "),
-        Part::Code(name),
-        Part::Words(" with "),
-        Part::Arguments(wanted.formals.len()),
-        Part::Words(", which "),
-        Part::Plain(above.name.name.as_slice()),
-        Part::Words(" wants of each class below it."),
+        MessagePart::Plain(class.name.name.as_slice()),
+        MessagePart::Words(" has no "),
+        MessagePart::Code(name),
+        MessagePart::Words(" with "),
+        MessagePart::Arguments(wanted.formals.len()),
+        MessagePart::Words(", which "),
+        MessagePart::Plain(above.name.name.as_slice()),
+        MessagePart::Words(" wants of each class below it."),
     ])?;
     match &wanted.result {
         Some(ty) => said.say(&[
-            Part::Words("Write it with the arguments of the signature, and with its result "),
-            Part::Plain(plain_name(ty).unwrap_or(b"type".as_slice())),
-            Part::Words("."),
+            MessagePart::Words(
+                "Write it with the arguments of the signature, and with its result ",
+            ),
+            MessagePart::Plain(plain_name(ty).unwrap_or(b"type".as_slice())),
+            MessagePart::Words("."),
         ]),
         None => said.say_words(
             "Write it with the arguments of the signature, and without a result.",

@@ -5,15 +5,16 @@ ghost use Rattle.std.specs.Prelude.{◌↔◌, ◌<◌, All, IsTrue, length};
 use crate::classes::{about_class, about_features};
 use crate::faults::about_fault;
 use crate::general::{Advice, of_rule};
-use sa_core::Core;
+use sa_ast::{Class, FaultKind, NoMemory, Pos, Refusal, Rule, Sources};
+use sa_diagnostics::{
+    Declarations, Message, MessagePart, Sentences, SourceContext, Span, TokenView, line_in,
+    open_blocks_before, put_marked,
+};
 use sa_explain_bodies::about_body;
 use sa_explain_grammar::{about_bytes, unexpected};
-use sa_explain_scene::{
-    Part, Said, Scene, Sentences, Span, Table, Tokens, line_in, opened_before, put_marked,
-};
-use sa_lex::{Token, lex};
-use sa_read::{Parsed, parse_program};
-use sa_tree::{Class, FaultKind, NoMemory, Pos, Refusal, Rule, Sources};
+use sa_lexer::{Token, lex};
+use sa_read::{ParsedFiles, parse_program};
+use sa_typed::TypedProgram;
 use sqlite_items::Items;
 use std::alloc::Global;
 
@@ -37,7 +38,7 @@ pub fn explain_refusals(
     further: &[Refusal],
 ) -> Result<Vec<u8>, NoMemory> {
     let classes = classes_of(alloc, sources)?;
-    let table = Table {
+    let table = Declarations {
         classes: classes.as_slice(),
         sources,
     };
@@ -55,16 +56,20 @@ pub fn explain_refusals(
 }
 
 /// What a refusal means, below an empty line and one with its rule and its place.
-fn below_head(alloc: Global, table: Table<'_>, refusal: Refusal) -> Result<Vec<u8>, NoMemory> {
+fn below_head(
+    alloc: Global,
+    table: Declarations<'_>,
+    refusal: Refusal,
+) -> Result<Vec<u8>, NoMemory> {
     let mut head = Sentences::new(alloc);
     head.say_words("")?;
     head.say(&[
-        Part::Words(refusal.rule.text()),
-        Part::Words(" in line "),
-        Part::Number(table.line(refusal.pos)),
-        Part::Words(" of "),
-        Part::File(table.file(refusal.pos)),
-        Part::Words(":"),
+        MessagePart::Words(refusal.rule.text()),
+        MessagePart::Words(" in line "),
+        MessagePart::Number(table.line(refusal.pos)),
+        MessagePart::Words(" of "),
+        MessagePart::File(table.file(refusal.pos)),
+        MessagePart::Words(":"),
     ])?;
     let mut lines = head.text;
     let explained = of_refusal(alloc, table, refusal)?;
@@ -78,8 +83,8 @@ fn left_out(alloc: Global, count: usize) -> Result<Vec<u8>, NoMemory> {
     if count > 0 {
         said.say_words("")?;
         said.say(&[
-            Part::Number(count),
-            Part::Words(
+            MessagePart::Number(count),
+            MessagePart::Words(
                 " more of these lines aren't explained: mend the first ones, and check again.",
             ),
         ])?;
@@ -88,7 +93,11 @@ fn left_out(alloc: Global, count: usize) -> Result<Vec<u8>, NoMemory> {
 }
 
 /// What a refusal means.
-fn of_refusal(alloc: Global, table: Table<'_>, refusal: Refusal) -> Result<Vec<u8>, NoMemory> {
+fn of_refusal(
+    alloc: Global,
+    table: Declarations<'_>,
+    refusal: Refusal,
+) -> Result<Vec<u8>, NoMemory> {
     let Some(text) = table.sources.texts.get(refusal.pos.file as usize) else {
         return Ok(Vec::new(alloc));
     };
@@ -106,7 +115,7 @@ fn of_refusal(alloc: Global, table: Table<'_>, refusal: Refusal) -> Result<Vec<u
 pub fn explain_fault(
     alloc: Global,
     sources: &Sources,
-    core: Option<&Core>,
+    core: Option<&TypedProgram>,
     kind: FaultKind,
     pos: Pos,
 ) -> Result<Vec<u8>, NoMemory> {
@@ -116,18 +125,18 @@ pub fn explain_fault(
     let text = text.as_slice();
     let tokens = tokens_of(alloc, text, pos.file)?;
     let classes = classes_of(alloc, sources)?;
-    let table = Table {
+    let table = Declarations {
         classes: classes.as_slice(),
         sources,
     };
     let scene = scene_of(alloc, text, tokens.as_slice(), pos, table)?;
-    let mut said = Said::new(alloc, scene.span(scene.at));
+    let mut said = Message::new(alloc, scene.span(scene.at));
     about_fault(scene, core, kind, &mut said)?;
     shown(alloc, text, &said)
 }
 
 /// The marked line, and behind it what is said.
-fn shown(alloc: Global, text: &[u8], said: &Said) -> Result<Vec<u8>, NoMemory> {
+fn shown(alloc: Global, text: &[u8], said: &Message) -> Result<Vec<u8>, NoMemory> {
     let mut lines = Vec::new(alloc);
     put_marked(&mut lines, text, line_in(text, said.mark.start), said.mark)?;
     lines.extend_from_slice(said.sentences.text.as_slice())?;
@@ -137,17 +146,17 @@ fn shown(alloc: Global, text: &[u8], said: &Said) -> Result<Vec<u8>, NoMemory> {
 /// What is said of a refusal at a place of this text.
 fn said_of_refusal(
     alloc: Global,
-    table: Table<'_>,
+    table: Declarations<'_>,
     text: &[u8],
     refusal: Refusal,
-) -> Result<Said, NoMemory> {
+) -> Result<Message, NoMemory> {
     let mut said = match refusal.rule {
         Rule::BadByte
         | Rule::LiteralNotEnded
         | Rule::NumberTooLarge
         | Rule::NumberForm
         | Rule::UnknownEscape => of_bytes(alloc, text, refusal)?,
-        Rule::SourceTooLarge => Said::new(alloc, one_byte(refusal.pos)),
+        Rule::SourceTooLarge => Message::new(alloc, one_byte(refusal.pos)),
         _ => of_tokens(alloc, table, text, refusal)?,
     };
     if said.is_silent() {
@@ -168,8 +177,8 @@ fn one_byte(pos: Pos) -> Span {
 }
 
 /// What is said of bytes that are no tokens.
-fn of_bytes(alloc: Global, text: &[u8], refusal: Refusal) -> Result<Said, NoMemory> {
-    let mut said = Said::new(alloc, one_byte(refusal.pos));
+fn of_bytes(alloc: Global, text: &[u8], refusal: Refusal) -> Result<Message, NoMemory> {
+    let mut said = Message::new(alloc, one_byte(refusal.pos));
     about_bytes(text, refusal, &mut said)?;
     Ok(said)
 }
@@ -177,13 +186,13 @@ fn of_bytes(alloc: Global, text: &[u8], refusal: Refusal) -> Result<Said, NoMemo
 /// What is said of a refusal of a text that has tokens.
 fn of_tokens(
     alloc: Global,
-    table: Table<'_>,
+    table: Declarations<'_>,
     text: &[u8],
     refusal: Refusal,
-) -> Result<Said, NoMemory> {
+) -> Result<Message, NoMemory> {
     let tokens = tokens_of(alloc, text, refusal.pos.file)?;
     let scene = scene_of(alloc, text, tokens.as_slice(), refusal.pos, table)?;
-    let mut said = Said::new(alloc, scene.span(scene.at));
+    let mut said = Message::new(alloc, scene.span(scene.at));
     about_rule(scene, refusal.rule, &mut said)?;
     Ok(said)
 }
@@ -194,16 +203,16 @@ fn scene_of<'a>(
     text: &'a [u8],
     list: &'a [Token],
     pos: Pos,
-    table: Table<'a>,
-) -> Result<Scene<'a>, NoMemory> {
-    let tokens = Tokens { list, src: text };
+    table: Declarations<'a>,
+) -> Result<SourceContext<'a>, NoMemory> {
+    let tokens = TokenView { list, src: text };
     let at = tokens.number_at(pos.at as usize);
-    let opened = opened_before(alloc, tokens, at)?;
+    let opened = open_blocks_before(alloc, tokens, at)?;
     let feature = match opened.feature(tokens) {
         Some(open) => open.named,
         None => at,
     };
-    Ok(Scene {
+    Ok(SourceContext {
         alloc,
         tokens,
         at,
@@ -232,7 +241,7 @@ fn classes_of(alloc: Global, sources: &Sources) -> Result<Items<Class>, NoMemory
     }
     match parse_program(alloc, texts) {
         Ok(
-            Parsed {
+            ParsedFiles {
                 classes,
                 contracts: _contracts,
             },
@@ -256,7 +265,7 @@ fn is_short(text: &Items<u8>) -> bool
 }
 
 /// What is said of a rule that is broken at the place.
-fn about_rule(scene: Scene<'_>, rule: Rule, said: &mut Said) -> Result<(), NoMemory> {
+fn about_rule(scene: SourceContext<'_>, rule: Rule, said: &mut Message) -> Result<(), NoMemory> {
     match rule {
         Rule::UnexpectedToken => unexpected(scene, said),
         Rule::WordNotTaken

@@ -2,21 +2,21 @@
 
 use crate::general::{Advice, of_fault};
 use crate::ways::tell_ways;
-use sa_core::Core;
+use sa_ast::{FaultKind, NoMemory, Ty};
+use sa_diagnostics::{Message, MessagePart, SourceContext, TokenView};
 use sa_explain_calls::{lines_to, raised_type};
-use sa_explain_scene::{Part, Said, Scene, Tokens};
-use sa_lex::{Sign, TokenKind};
-use sa_tree::{FaultKind, NoMemory, Ty};
+use sa_lexer::{Sign, TokenKind};
+use sa_typed::TypedProgram;
 use sa_types::is_abstract;
 use std::alloc::AllocError;
 
 /// Says what a kind of fault means, and where the place is in the prelude which feature it is in and, by the typed tree, which lines lead
 /// there.
 pub(crate) fn about_fault(
-    scene: Scene<'_>,
-    core: Option<&Core>,
+    scene: SourceContext<'_>,
+    core: Option<&TypedProgram>,
     kind: FaultKind,
-    said: &mut Said,
+    said: &mut Message,
 ) -> Result<(), NoMemory> {
     let Advice { wrong, remedy } = of_fault(kind);
     said.say_words(wrong)?;
@@ -31,23 +31,27 @@ pub(crate) fn about_fault(
 }
 
 /// Names the feature of the prelude that the place is in.
-fn in_prelude(scene: Scene<'_>, said: &mut Said) -> Result<(), AllocError> {
+fn in_prelude(scene: SourceContext<'_>, said: &mut Message) -> Result<(), AllocError> {
     let Some((class, feature)) = scene.table.feature_at(scene.pos) else {
         return Ok(());
     };
     let name = feature.name.name.as_slice();
     said.say(&[
-        Part::Words("This is inside "),
-        Part::Code(name),
-        Part::Words(" of "),
-        Part::Plain(class.name.name.as_slice()),
-        Part::Words(written_as(name)),
-        Part::Words(": a feature of the prelude, which the program has called."),
+        MessagePart::Words("This is inside "),
+        MessagePart::Code(name),
+        MessagePart::Words(" of "),
+        MessagePart::Plain(class.name.name.as_slice()),
+        MessagePart::Words(written_as(name)),
+        MessagePart::Words(": a feature of the prelude, which the program has called."),
     ])
 }
 
 /// Tells the lines from which the place in the prelude can be come to.
-fn ways_there(scene: Scene<'_>, core: Option<&Core>, said: &mut Said) -> Result<(), NoMemory> {
+fn ways_there(
+    scene: SourceContext<'_>,
+    core: Option<&TypedProgram>,
+    said: &mut Message,
+) -> Result<(), NoMemory> {
     if let Some(core) = core {
         let lines = lines_to(scene.alloc, core, scene.pos)?;
         tell_ways(scene, lines.as_slice(), said)?;
@@ -70,26 +74,26 @@ fn written_as(name: &[u8]) -> &'static str {
 
 /// Names the variable that is void, and the text that was raised, or the type of what was raised.
 fn of_program(
-    scene: Scene<'_>,
-    core: Option<&Core>,
+    scene: SourceContext<'_>,
+    core: Option<&TypedProgram>,
     kind: FaultKind,
-    said: &mut Said,
+    said: &mut Message,
 ) -> Result<(), NoMemory> {
     match kind {
         FaultKind::Void => {
             match void_variable(scene.tokens, scene.at) {
                 Some(name) => said.say(&[
-                    Part::Code(scene.tokens.bytes(name)),
-                    Part::Words(" is void here."),
+                    MessagePart::Code(scene.tokens.bytes(name)),
+                    MessagePart::Words(" is void here."),
                 ])?,
                 None => in_create(scene, said)?,
             }
         }
         FaultKind::Uncaught => match text_raised(scene.tokens, scene.at) {
             Some(text) => said.say(&[
-                Part::Words("What was raised is the text "),
-                Part::Code(scene.tokens.bytes(text)),
-                Part::Words("."),
+                MessagePart::Words("What was raised is the text "),
+                MessagePart::Code(scene.tokens.bytes(text)),
+                MessagePart::Words("."),
             ])?,
             None => value_raised(scene, core, said)?,
         },
@@ -99,7 +103,7 @@ fn of_program(
 }
 
 /// An attribute of self that is assigned in `create`, where there is no object yet.
-fn in_create(scene: Scene<'_>, said: &mut Said) -> Result<(), AllocError> {
+fn in_create(scene: SourceContext<'_>, said: &mut Message) -> Result<(), AllocError> {
     let tokens = scene.tokens;
     let target = scene.at.saturating_sub(1);
     let is_own = tokens.is_sign(scene.at, Sign::Assign)
@@ -115,7 +119,7 @@ fn in_create(scene: Scene<'_>, said: &mut Said) -> Result<(), AllocError> {
 }
 
 /// The name before the `.` of a call, or of an assignment, at a token, where nothing stands before it.
-fn void_variable(tokens: Tokens<'_>, at: usize) -> Option<usize> {
+fn void_variable(tokens: TokenView<'_>, at: usize) -> Option<usize> {
     let called = if tokens.is_sign(at, Sign::Assign) {
         at.checked_sub(1)?
     } else {
@@ -131,7 +135,7 @@ fn void_variable(tokens: Tokens<'_>, at: usize) -> Option<usize> {
 }
 
 /// The text behind the `raise` at a token, where nothing is done with it.
-fn text_raised(tokens: Tokens<'_>, at: usize) -> Option<usize> {
+fn text_raised(tokens: TokenView<'_>, at: usize) -> Option<usize> {
     let text = at.saturating_add(1);
     let is_text = matches!(tokens.kind(text), Some(TokenKind::Text(_)))
         && tokens.is_sign(text.saturating_add(1), Sign::Semicolon);
@@ -139,7 +143,11 @@ fn text_raised(tokens: Tokens<'_>, at: usize) -> Option<usize> {
 }
 
 /// Tells the type of the value that is raised at the place.
-fn value_raised(scene: Scene<'_>, core: Option<&Core>, said: &mut Said) -> Result<(), NoMemory> {
+fn value_raised(
+    scene: SourceContext<'_>,
+    core: Option<&TypedProgram>,
+    said: &mut Message,
+) -> Result<(), NoMemory> {
     let Some(core) = core else {
         return Ok(());
     };
@@ -147,43 +155,48 @@ fn value_raised(scene: Scene<'_>, core: Option<&Core>, said: &mut Said) -> Resul
         return Ok(());
     };
     let mut parts = Vec::new(scene.alloc);
-    parts.push(Part::Words(if is_abstract(ty) {
+    parts.push(MessagePart::Words(if is_abstract(ty) {
         "What was raised is of a type below "
     } else {
         "What was raised is of type "
     }))?;
     put_type(&mut parts, ty)?;
-    parts.push(Part::Words(", and its value is gone now: print it before the `raise` to see it."))?;
+    parts.push(MessagePart::Words(
+        ", and its value is gone now: print it before the `raise` to see it.",
+    ))?;
     said.say(parts.as_slice())?;
     Ok(())
 }
 
 /// Adds the name of a type, with its parameters.
 #[cycle(put_type)]
-fn put_type<'a>(parts: &mut Vec<Part<'a>>, ty: &'a Ty) -> Result<(), AllocError> {
+fn put_type<'a>(parts: &mut Vec<MessagePart<'a>>, ty: &'a Ty) -> Result<(), AllocError> {
     match ty {
         Ty::Named(name, params, _) => {
-            parts.push(Part::Plain(name.as_slice()))?;
+            parts.push(MessagePart::Plain(name.as_slice()))?;
             put_parameters(parts, params.as_slice())?;
         }
-        Ty::Same(_) => parts.push(Part::Words("SAME"))?,
-        Ty::Rout(_, _, _) => parts.push(Part::Words("ROUT"))?,
-        Ty::Iter(_, _, _) => parts.push(Part::Words("ITER"))?,
+        Ty::Same(_) => parts.push(MessagePart::Words("SAME"))?,
+        Ty::Rout(_, _, _) => parts.push(MessagePart::Words("ROUT"))?,
+        Ty::Iter(_, _, _) => parts.push(MessagePart::Words("ITER"))?,
     }
     Ok(())
 }
 
 /// Adds `{T, U}`, or nothing where there are none.
 #[cycle(put_type)]
-fn put_parameters<'a>(parts: &mut Vec<Part<'a>>, params: &'a [Ty]) -> Result<(), AllocError> {
+fn put_parameters<'a>(
+    parts: &mut Vec<MessagePart<'a>>,
+    params: &'a [Ty],
+) -> Result<(), AllocError> {
     let mut before = "{";
     for param in params {
-        parts.push(Part::Words(before))?;
+        parts.push(MessagePart::Words(before))?;
         put_type(parts, param)?;
         before = ", ";
     }
     if !params.is_empty() {
-        parts.push(Part::Words("}"))?;
+        parts.push(MessagePart::Words("}"))?;
     }
     Ok(())
 }

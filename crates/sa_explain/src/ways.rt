@@ -1,7 +1,7 @@
 //! The lines of the program's own from which a place of the prelude can be come to.
 
+use sa_diagnostics::{Declarations, Message, MessagePart, SourceContext};
 use sa_explain_calls::Line;
-use sa_explain_scene::{Part, Said, Scene, Table};
 use std::alloc::AllocError;
 
 /// How many lines are told.
@@ -9,37 +9,37 @@ const MOST_LINES: usize = 5;
 
 /// Tells which line led to the place, or one of which.
 pub(crate) fn tell_ways(
-    scene: Scene<'_>,
+    scene: SourceContext<'_>,
     lines: &[Line],
-    said: &mut Said,
+    said: &mut Message,
 ) -> Result<(), AllocError> {
     if lines.is_empty() {
         return Ok(());
     }
-    let told = lines.get(..MOST_LINES).unwrap_or(lines);
+    let reported = lines.get(..MOST_LINES).unwrap_or(lines);
     let mut parts = Vec::new(scene.alloc);
     if lines.len() == 1 {
-        parts.push(Part::Words("The program came here from "))?;
-        put_lines(&mut parts, scene.table, told)?;
-        parts.push(Part::Words(", the only line that leads here."))?;
+        parts.push(MessagePart::Words("The program came here from "))?;
+        put_lines(&mut parts, scene.table, reported)?;
+        parts.push(MessagePart::Words(", the only line that leads here."))?;
     } else if lines.len() <= MOST_LINES {
-        parts.push(Part::Words("The program came here from one of these: "))?;
-        put_lines(&mut parts, scene.table, told)?;
-        parts.push(Part::Words("."))?;
+        parts.push(MessagePart::Words("The program came here from one of these: "))?;
+        put_lines(&mut parts, scene.table, reported)?;
+        parts.push(MessagePart::Words("."))?;
     } else {
-        parts.push(Part::Words("The program came here from one of "))?;
-        parts.push(Part::Number(lines.len()))?;
-        parts.push(Part::Words(" lines, of which the first are "))?;
-        put_lines(&mut parts, scene.table, told)?;
-        parts.push(Part::Words("."))?;
+        parts.push(MessagePart::Words("The program came here from one of "))?;
+        parts.push(MessagePart::Number(lines.len()))?;
+        parts.push(MessagePart::Words(" lines, of which the first are "))?;
+        put_lines(&mut parts, scene.table, reported)?;
+        parts.push(MessagePart::Words("."))?;
     }
     said.say(parts.as_slice())
 }
 
 /// Adds lines, those of one file together: `line 6 of a.sa, and lines 2 and 9 of b.sa`.
 fn put_lines<'a>(
-    parts: &mut Vec<Part<'a>>,
-    table: Table<'a>,
+    parts: &mut Vec<MessagePart<'a>>,
+    table: Declarations<'a>,
     lines: &[Line],
 ) -> Result<(), AllocError> {
     for at in 0..lines.len() {
@@ -52,22 +52,22 @@ fn put_lines<'a>(
 
 /// Adds the line at a place of the list.
 fn put_line<'a>(
-    parts: &mut Vec<Part<'a>>,
-    table: Table<'a>,
+    parts: &mut Vec<MessagePart<'a>>,
+    table: Declarations<'a>,
     lines: &[Line],
     at: usize,
     line: Line,
 ) -> Result<(), AllocError> {
     let begins = at == 0 || !is_in_file(lines, at.saturating_sub(1), line.file);
     let ends = !is_in_file(lines, at.saturating_add(1), line.file);
-    parts.push(Part::Words(words_between(lines, at, line.file, begins, ends)))?;
+    parts.push(MessagePart::Words(words_between(lines, at, line.file, begins, ends)))?;
     if begins {
-        parts.push(Part::Words(if ends { "line " } else { "lines " }))?;
+        parts.push(MessagePart::Words(if ends { "line " } else { "lines " }))?;
     }
-    parts.push(Part::Number(line.number))?;
+    parts.push(MessagePart::Number(line.number))?;
     if ends {
-        parts.push(Part::Words(" of "))?;
-        parts.push(Part::File(table.file_at(line.file)))?;
+        parts.push(MessagePart::Words(" of "))?;
+        parts.push(MessagePart::File(table.file_at(line.file)))?;
     }
     Ok(())
 }

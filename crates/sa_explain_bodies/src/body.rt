@@ -5,15 +5,19 @@ use crate::iters::about_iter;
 use crate::names::{about_name, unknown_name};
 use crate::operators::comparison_with_void;
 use crate::typing::wrong_type;
-use sa_explain_scene::{Said, Scene};
-use sa_tree::{NoMemory, Rule};
+use sa_ast::{NoMemory, Rule};
+use sa_diagnostics::{Message, SourceContext};
 
 /// Says what is wrong at the place, where a rule of bodies is broken there and the tokens and the classes tell more than the rule.
 ///
 /// # Errors
 ///
 /// `NoMemory` where memory runs out.
-pub fn about_body(scene: Scene<'_>, rule: Rule, said: &mut Said) -> Result<(), NoMemory> {
+pub fn about_body(
+    scene: SourceContext<'_>,
+    rule: Rule,
+    said: &mut Message,
+) -> Result<(), NoMemory> {
     match rule {
         Rule::UnknownName => unknown_name(scene, said),
         Rule::PrivateFeature | Rule::DeclaredTwice | Rule::BadBind | Rule::TypecaseVariable => {

@@ -2,16 +2,19 @@
 
 use crate::operators::operator_without_fit;
 use crate::values::{class_named_at, value_at};
-use sa_explain_scene::{
-    Part, Quality, Said, Scene, Tokens, count_in, feature_in, has_parameter, is_closing,
-    is_opening, plain_name,
+use sa_ast::{Class, ClassKind, Feature, FeatureBody as FeaturePart, Mode, NoMemory};
+use sa_diagnostics::{
+    Message, MessagePart, Quality, SourceContext, TokenView, count_in, feature_in, has_parameter,
+    is_closing, is_opening, plain_name,
 };
-use sa_lex::{Sign, TokenKind, Word};
-use sa_tree::{Class, Feature, Kind, Mode, NoMemory, Part as FeaturePart};
+use sa_lexer::{Sign, TokenKind, Word};
 use std::alloc::AllocError;
 
 /// Says why the call at the place has no feature that fits.
-pub(crate) fn call_without_fit(scene: Scene<'_>, said: &mut Said) -> Result<(), NoMemory> {
+pub(crate) fn call_without_fit(
+    scene: SourceContext<'_>,
+    said: &mut Message,
+) -> Result<(), NoMemory> {
     match scene.tokens.kind(scene.at) {
         Some(TokenKind::Sign(Sign::Hash)) => object_without_fit(scene, said)?,
         Some(TokenKind::Sign(Sign::Assign)) => assignment_without_fit(scene, said)?,
@@ -29,7 +32,11 @@ pub(crate) fn call_without_fit(scene: Scene<'_>, said: &mut Said) -> Result<(), 
 }
 
 /// An operator, or `=` in place of `:=`.
-fn comparison_or_operator(scene: Scene<'_>, sign: Sign, said: &mut Said) -> Result<(), AllocError> {
+fn comparison_or_operator(
+    scene: SourceContext<'_>,
+    sign: Sign,
+    said: &mut Message,
+) -> Result<(), AllocError> {
     if sign == Sign::Equal && stands_alone(scene.tokens, scene.at) {
         said.say_words("`=` compares two values, and a statement doesn't take what it gives.")?;
         return said.say_words("To assign write `:=`.");
@@ -38,7 +45,7 @@ fn comparison_or_operator(scene: Scene<'_>, sign: Sign, said: &mut Said) -> Resu
 }
 
 /// Whether a statement begins with an expression that goes on at a token.
-fn stands_alone(tokens: Tokens<'_>, at: usize) -> bool {
+fn stands_alone(tokens: TokenView<'_>, at: usize) -> bool {
     let mut depth = 0usize;
     for back in 0..at {
         let place = at - 1 - back;
@@ -80,7 +87,7 @@ fn is_of_postfix(kind: Option<&TokenKind>) -> bool {
 }
 
 /// `r.f := e`
-fn assignment_without_fit(scene: Scene<'_>, said: &mut Said) -> Result<(), AllocError> {
+fn assignment_without_fit(scene: SourceContext<'_>, said: &mut Message) -> Result<(), AllocError> {
     let Some(target) = scene.at.checked_sub(1) else {
         return Ok(());
     };
@@ -95,18 +102,18 @@ fn assignment_without_fit(scene: Scene<'_>, said: &mut Said) -> Result<(), Alloc
     said.mark = scene.span(target);
     if all == scene.table.count(name, Quality::ReadOnly) && !is_written_here(scene, name) {
         said.say(&[
-            Part::Code(name),
-            Part::Words(" is "),
-            Part::Code(b"readonly".as_slice()),
-            Part::Words(": other classes read it, and its own class alone writes it."),
+            MessagePart::Code(name),
+            MessagePart::Words(" is "),
+            MessagePart::Code(b"readonly".as_slice()),
+            MessagePart::Words(": other classes read it, and its own class alone writes it."),
         ])?;
         return said.say_words("Write a routine in its class that changes it, and call that.");
     }
     if scene.table.count(name, Quality::Takes(1)) == 0 {
         said.say(&[
-            Part::Words("An assignment to "),
-            Part::Code(name),
-            Part::Words(
+            MessagePart::Words("An assignment to "),
+            MessagePart::Code(name),
+            MessagePart::Words(
                 " calls a routine of this name with the value, and none takes one argument.",
             ),
         ])?;
@@ -116,7 +123,7 @@ fn assignment_without_fit(scene: Scene<'_>, said: &mut Said) -> Result<(), Alloc
 }
 
 /// Whether the class that the place is in writes or includes a feature of this name.
-fn is_written_here(scene: Scene<'_>, name: &[u8]) -> bool {
+fn is_written_here(scene: SourceContext<'_>, name: &[u8]) -> bool {
     match scene.table.class_at(scene.pos) {
         Some(class) => { !class.includes.is_empty() || count_in(class, name, Quality::Any) > 0 }
         None => true,
@@ -124,7 +131,11 @@ fn is_written_here(scene: Scene<'_>, name: &[u8]) -> bool {
 }
 
 /// The type of the attribute that is assigned, where there is one of its name alone, and that of the value.
-fn assigned_type<'a>(scene: Scene<'a>, name: &'a [u8], said: &mut Said) -> Result<(), AllocError> {
+fn assigned_type<'a>(
+    scene: SourceContext<'a>,
+    name: &'a [u8],
+    said: &mut Message,
+) -> Result<(), AllocError> {
     let next = scene.at.saturating_add(1);
     let (Some(wanted), Some(value)) = (only_type(scene, name), value_at(scene, next)) else {
         return Ok(());
@@ -133,24 +144,24 @@ fn assigned_type<'a>(scene: Scene<'a>, name: &'a [u8], said: &mut Said) -> Resul
         return Ok(());
     }
     said.say(&[
-        Part::Code(name),
-        Part::Words(" is declared "),
-        Part::Plain(wanted),
-        Part::Words(", and "),
-        Part::Code(scene.tokens.bytes(next)),
-        Part::Words(" is of type "),
-        Part::Plain(value.class),
-        Part::Words("."),
+        MessagePart::Code(name),
+        MessagePart::Words(" is declared "),
+        MessagePart::Plain(wanted),
+        MessagePart::Words(", and "),
+        MessagePart::Code(scene.tokens.bytes(next)),
+        MessagePart::Words(" is of type "),
+        MessagePart::Plain(value.class),
+        MessagePart::Words("."),
     ])?;
     said.say(&[
-        Part::Words("Write a value of type "),
-        Part::Plain(wanted),
-        Part::Words("."),
+        MessagePart::Words("Write a value of type "),
+        MessagePart::Plain(wanted),
+        MessagePart::Words("."),
     ])
 }
 
 /// The only feature of this name.
-fn only_feature<'a>(scene: Scene<'a>, name: &[u8]) -> Option<(&'a Class, &'a Feature)> {
+fn only_feature<'a>(scene: SourceContext<'a>, name: &[u8]) -> Option<(&'a Class, &'a Feature)> {
     if scene.table.count(name, Quality::Any) != 1 {
         return None;
     }
@@ -159,7 +170,7 @@ fn only_feature<'a>(scene: Scene<'a>, name: &[u8]) -> Option<(&'a Class, &'a Fea
 }
 
 /// The type of the only attribute or shared of this name.
-fn only_type<'a>(scene: Scene<'a>, name: &[u8]) -> Option<&'a [u8]> {
+fn only_type<'a>(scene: SourceContext<'a>, name: &[u8]) -> Option<&'a [u8]> {
     let (_, feature) = only_feature(scene, name)?;
     if !matches!(feature.part, FeaturePart::Attr | FeaturePart::Shared(_)) {
         return None;
@@ -171,17 +182,17 @@ fn only_type<'a>(scene: Scene<'a>, name: &[u8]) -> Option<&'a [u8]> {
 }
 
 /// Whether a value of the second class is none of the first one: both are there, and the first isn't abstract.
-pub(crate) fn is_other(scene: Scene<'_>, wanted: &[u8], found: &[u8]) -> bool {
+pub(crate) fn is_other(scene: SourceContext<'_>, wanted: &[u8], found: &[u8]) -> bool {
     match scene.table.class(wanted) {
         Some(class) => {
-            class.kind != Kind::Abstract && class.params.is_empty() && wanted != found
+            class.kind != ClassKind::Abstract && class.params.is_empty() && wanted != found
         }
         None => false,
     }
 }
 
 /// `#C(..)`
-fn object_without_fit(scene: Scene<'_>, said: &mut Said) -> Result<(), AllocError> {
+fn object_without_fit(scene: SourceContext<'_>, said: &mut Message) -> Result<(), AllocError> {
     let name = scene.at.saturating_add(1);
     let Some(class) = class_named_at(scene, name) else {
         return Ok(());
@@ -196,28 +207,28 @@ fn object_without_fit(scene: Scene<'_>, said: &mut Said) -> Result<(), AllocErro
     let is_whole = declared.includes.is_empty();
     if is_whole && count_in(declared, b"create".as_slice(), Quality::Takes(given)) == 0 {
         said.say(&[
-            Part::Words("`#"),
-            Part::Plain(class),
-            Part::Words("` calls `create` of "),
-            Part::Plain(class),
-            Part::Words(", and none takes "),
-            Part::Arguments(given),
-            Part::Words("."),
+            MessagePart::Words("`#"),
+            MessagePart::Plain(class),
+            MessagePart::Words("` calls `create` of "),
+            MessagePart::Plain(class),
+            MessagePart::Words(", and none takes "),
+            MessagePart::Arguments(given),
+            MessagePart::Words("."),
         ])?;
         return said.say_words("Give it the arguments that `create` takes.");
     }
     said.say(&[
-        Part::Words("`#"),
-        Part::Plain(class),
-        Part::Words("` calls `create` of "),
-        Part::Plain(class),
-        Part::Words(", and none takes these arguments and gives the new object."),
+        MessagePart::Words("`#"),
+        MessagePart::Plain(class),
+        MessagePart::Words("` calls `create` of "),
+        MessagePart::Plain(class),
+        MessagePart::Words(", and none takes these arguments and gives the new object."),
     ])?;
     said.say_words("See what types its arguments have, and that its result is SAME.")
 }
 
 /// How many arguments stand behind a name, or nothing where an array literal among them hides which commas part them.
-fn arguments_behind(tokens: Tokens<'_>, name: usize) -> Option<usize> {
+fn arguments_behind(tokens: TokenView<'_>, name: usize) -> Option<usize> {
     let open = name.saturating_add(1);
     if !tokens.is_sign(open, Sign::LeftParen) {
         return Some(0);
@@ -243,7 +254,7 @@ fn arguments_behind(tokens: Tokens<'_>, name: usize) -> Option<usize> {
 }
 
 /// A call by name.
-fn feature_without_fit(scene: Scene<'_>, said: &mut Said) -> Result<(), AllocError> {
+fn feature_without_fit(scene: SourceContext<'_>, said: &mut Message) -> Result<(), AllocError> {
     let name = scene.name();
     let all = scene.table.count(name, Quality::Any);
     if is_leaving(name) {
@@ -284,7 +295,7 @@ fn marked_formals(feature: &Feature) -> usize {
 }
 
 /// How many arguments that stand behind a name are marked by `out` or `inout`.
-fn marked_behind(tokens: Tokens<'_>, name: usize) -> usize {
+fn marked_behind(tokens: TokenView<'_>, name: usize) -> usize {
     let open = name.saturating_add(1);
     let mut depth = 0usize;
     let mut count = 0usize;
@@ -305,17 +316,23 @@ fn marked_behind(tokens: Tokens<'_>, name: usize) -> usize {
 }
 
 /// Other marks of arguments than the header has.
-fn argument_marks(scene: Scene<'_>, wanted: usize, said: &mut Said) -> Result<(), AllocError> {
+fn argument_marks(
+    scene: SourceContext<'_>,
+    wanted: usize,
+    said: &mut Message,
+) -> Result<(), AllocError> {
     if wanted == 0 {
         said.say(&[
-            Part::Code(scene.name()),
-            Part::Words(" copies no argument back, and this call marks one by `out` or `inout`."),
+            MessagePart::Code(scene.name()),
+            MessagePart::Words(
+                " copies no argument back, and this call marks one by `out` or `inout`.",
+            ),
         ])?;
         return said.say_words("Take the word away, or write it in the header too.");
     }
     said.say(&[
-        Part::Code(scene.name()),
-        Part::Words(
+        MessagePart::Code(scene.name()),
+        MessagePart::Words(
             " copies arguments back, which its header and each call mark by the same words.",
         ),
     ])?;
@@ -327,10 +344,10 @@ fn is_leaving(name: &[u8]) -> bool {
     name == b"while!".as_slice() || name == b"until!".as_slice() || name == b"break!".as_slice()
 }
 
-fn leaving(scene: Scene<'_>, said: &mut Said) -> Result<(), AllocError> {
+fn leaving(scene: SourceContext<'_>, said: &mut Message) -> Result<(), AllocError> {
     said.say(&[
-        Part::Code(scene.name()),
-        Part::Words(
+        MessagePart::Code(scene.name()),
+        MessagePart::Words(
             " is a statement of its own that gives nothing: `while!` and `until!` take one BOOL, and `break!` takes nothing.",
         ),
     ])?;
@@ -338,15 +355,15 @@ fn leaving(scene: Scene<'_>, said: &mut Said) -> Result<(), AllocError> {
 }
 
 /// Whether a call is a statement: nothing stands around it and its arguments.
-fn is_whole_statement(tokens: Tokens<'_>, name: usize) -> bool {
+fn is_whole_statement(tokens: TokenView<'_>, name: usize) -> bool {
     let next = name.saturating_add(1);
-    let behind = if tokens.is_sign(next, Sign::LeftParen) {
-        tokens.behind_bracket(next).unwrap_or(next)
+    let following = if tokens.is_sign(next, Sign::LeftParen) {
+        tokens.after_bracket(next).unwrap_or(next)
     } else {
         next
     };
     let ends = matches!(
-        tokens.kind(behind),
+        tokens.kind(following),
         Some(
             TokenKind::Sign(Sign::Semicolon)
                 | TokenKind::Word(Word::End | Word::Else | Word::Elsif | Word::When)
@@ -356,11 +373,11 @@ fn is_whole_statement(tokens: Tokens<'_>, name: usize) -> bool {
 }
 
 /// A statement that gives a value.
-fn unused_value(scene: Scene<'_>, said: &mut Said) -> Result<(), AllocError> {
+fn unused_value(scene: SourceContext<'_>, said: &mut Message) -> Result<(), AllocError> {
     let name = scene.name();
     said.say(&[
-        Part::Code(name),
-        Part::Words(" gives a value, which a statement doesn't take: it has to be used."),
+        MessagePart::Code(name),
+        MessagePart::Words(" gives a value, which a statement doesn't take: it has to be used."),
     ])?;
     if matches!(scene.tokens.kind(scene.at), Some(TokenKind::IterName)) {
         return said.say_words(
@@ -371,41 +388,45 @@ fn unused_value(scene: Scene<'_>, said: &mut Said) -> Result<(), AllocError> {
 }
 
 /// A call that gives nothing where a value is wanted.
-fn missing_value(scene: Scene<'_>, said: &mut Said) -> Result<(), AllocError> {
+fn missing_value(scene: SourceContext<'_>, said: &mut Message) -> Result<(), AllocError> {
     said.say(&[
-        Part::Code(scene.name()),
-        Part::Words(" gives no value, and here one is wanted."),
+        MessagePart::Code(scene.name()),
+        MessagePart::Words(" gives no value, and here one is wanted."),
     ])?;
     said.say_words("Call it as a statement of its own.")
 }
 
 /// Another number of arguments than is taken.
-fn argument_count(scene: Scene<'_>, given: usize, said: &mut Said) -> Result<(), AllocError> {
+fn argument_count(
+    scene: SourceContext<'_>,
+    given: usize,
+    said: &mut Message,
+) -> Result<(), AllocError> {
     let name = scene.name();
     match only_feature(scene, name) {
         Some((class, feature)) => said.say(&[
-            Part::Code(name),
-            Part::Words(" of "),
-            Part::Plain(class.name.name.as_slice()),
-            Part::Words(" takes "),
-            Part::Arguments(feature.formals.len()),
-            Part::Words(", and this call gives "),
-            Part::Number(given),
-            Part::Words("."),
+            MessagePart::Code(name),
+            MessagePart::Words(" of "),
+            MessagePart::Plain(class.name.name.as_slice()),
+            MessagePart::Words(" takes "),
+            MessagePart::Arguments(feature.formals.len()),
+            MessagePart::Words(", and this call gives "),
+            MessagePart::Number(given),
+            MessagePart::Words("."),
         ])?,
         None => said.say(&[
-            Part::Words("No "),
-            Part::Code(name),
-            Part::Words(" takes "),
-            Part::Arguments(given),
-            Part::Words("."),
+            MessagePart::Words("No "),
+            MessagePart::Code(name),
+            MessagePart::Words(" takes "),
+            MessagePart::Arguments(given),
+            MessagePart::Words("."),
         ])?,
     }
     said.say_words("Give it as many as it takes.")
 }
 
 /// An argument of another type, where there is one feature of the name and the tokens tell the types.
-fn argument_type(scene: Scene<'_>, said: &mut Said) -> Result<(), AllocError> {
+fn argument_type(scene: SourceContext<'_>, said: &mut Message) -> Result<(), AllocError> {
     let name = scene.name();
     let Some((class, feature)) = only_feature(scene, name) else {
         return Ok(());
@@ -422,18 +443,18 @@ fn argument_type(scene: Scene<'_>, said: &mut Said) -> Result<(), AllocError> {
     }
     said.mark = scene.span(argument);
     said.say(&[
-        Part::Code(name),
-        Part::Words(" takes a value of type "),
-        Part::Plain(wanted),
-        Part::Words(", and "),
-        Part::Code(scene.tokens.bytes(argument)),
-        Part::Words(" is of type "),
-        Part::Plain(value.class),
-        Part::Words("."),
+        MessagePart::Code(name),
+        MessagePart::Words(" takes a value of type "),
+        MessagePart::Plain(wanted),
+        MessagePart::Words(", and "),
+        MessagePart::Code(scene.tokens.bytes(argument)),
+        MessagePart::Words(" is of type "),
+        MessagePart::Plain(value.class),
+        MessagePart::Words("."),
     ])?;
     said.say(&[
-        Part::Words("Give it a value of type "),
-        Part::Plain(wanted),
-        Part::Words("."),
+        MessagePart::Words("Give it a value of type "),
+        MessagePart::Plain(wanted),
+        MessagePart::Words("."),
     ])
 }

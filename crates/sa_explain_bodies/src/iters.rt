@@ -1,12 +1,16 @@
 //! Iters, and what belongs to them: E35 to E38.
 
-use sa_explain_scene::{Part, Said, Scene};
-use sa_lex::{TokenKind, Word};
-use sa_tree::{NoMemory, Rule};
+use sa_ast::{NoMemory, Rule};
+use sa_diagnostics::{Message, MessagePart, SourceContext};
+use sa_lexer::{TokenKind, Word};
 use std::alloc::AllocError;
 
 /// Says what is wrong with the iter call or the word at the place.
-pub(crate) fn about_iter(scene: Scene<'_>, rule: Rule, said: &mut Said) -> Result<(), NoMemory> {
+pub(crate) fn about_iter(
+    scene: SourceContext<'_>,
+    rule: Rule,
+    said: &mut Message,
+) -> Result<(), NoMemory> {
     match rule {
         Rule::IterOutsideLoop => outside_loop(scene, said)?,
         Rule::IterInSelfOrOnce => evaluated_once(scene, said)?,
@@ -16,22 +20,26 @@ pub(crate) fn about_iter(scene: Scene<'_>, rule: Rule, said: &mut Said) -> Resul
     Ok(())
 }
 
-fn outside_loop(scene: Scene<'_>, said: &mut Said) -> Result<(), AllocError> {
+fn outside_loop(scene: SourceContext<'_>, said: &mut Message) -> Result<(), AllocError> {
     said.say(&[
-        Part::Code(scene.name()),
-        Part::Words(" is called like an iter, and no "),
-        Part::Code(b"loop".as_slice()),
-        Part::Words(" stands around it: the loop resumes an iter in each round, and ends with it."),
+        MessagePart::Code(scene.name()),
+        MessagePart::Words(" is called like an iter, and no "),
+        MessagePart::Code(b"loop".as_slice()),
+        MessagePart::Words(
+            " stands around it: the loop resumes an iter in each round, and ends with it.",
+        ),
     ])?;
     said.say_words("Write `loop .. end;` around the statement.")
 }
 
-fn evaluated_once(scene: Scene<'_>, said: &mut Said) -> Result<(), AllocError> {
+fn evaluated_once(scene: SourceContext<'_>, said: &mut Message) -> Result<(), AllocError> {
     said.say(&[
-        Part::Code(scene.name()),
-        Part::Words(" stands in what an iter is called on, or in an argument that is marked "),
-        Part::Code(b"once".as_slice()),
-        Part::Words(": that is evaluated once, when the iter starts."),
+        MessagePart::Code(scene.name()),
+        MessagePart::Words(
+            " stands in what an iter is called on, or in an argument that is marked ",
+        ),
+        MessagePart::Code(b"once".as_slice()),
+        MessagePart::Words(": that is evaluated once, when the iter starts."),
     ])?;
     said.say_words(
         "Take its value into a variable first and loop inside, or give the iter itself as `bind(..)`.",
@@ -39,14 +47,14 @@ fn evaluated_once(scene: Scene<'_>, said: &mut Said) -> Result<(), AllocError> {
 }
 
 /// `yield` and `quit` in a routine, `return` in an iter.
-fn out_of_place(scene: Scene<'_>, said: &mut Said) -> Result<(), AllocError> {
+fn out_of_place(scene: SourceContext<'_>, said: &mut Message) -> Result<(), AllocError> {
     if scene.tokens.is_word(scene.at, Word::Return) {
         said.say(&[
-            Part::Words("An iter ends by "),
-            Part::Code(b"quit".as_slice()),
-            Part::Words(" or at its end; "),
-            Part::Code(b"return".as_slice()),
-            Part::Words(" belongs to routines."),
+            MessagePart::Words("An iter ends by "),
+            MessagePart::Code(b"quit".as_slice()),
+            MessagePart::Words(" or at its end; "),
+            MessagePart::Code(b"return".as_slice()),
+            MessagePart::Words(" belongs to routines."),
         ])?;
         return said.say_words("Write `quit`, and `yield` for a value.");
     }
@@ -60,22 +68,22 @@ fn out_of_place(scene: Scene<'_>, said: &mut Said) -> Result<(), AllocError> {
         return in_main(scene, said);
     }
     said.say(&[
-        Part::Code(scene.name()),
-        Part::Words(" belongs to iters, whose names end in "),
-        Part::Code(b"!".as_slice()),
-        Part::Words(", and "),
-        Part::Code(name),
-        Part::Words(" is a routine."),
+        MessagePart::Code(scene.name()),
+        MessagePart::Words(" belongs to iters, whose names end in "),
+        MessagePart::Code(b"!".as_slice()),
+        MessagePart::Words(", and "),
+        MessagePart::Code(name),
+        MessagePart::Words(" is a routine."),
     ])?;
     said.say(&[
-        Part::Words("Name it `"),
-        Part::Plain(name),
-        Part::Words("!`, here and where it is called."),
+        MessagePart::Words("Name it `"),
+        MessagePart::Plain(name),
+        MessagePart::Words("!`, here and where it is called."),
     ])
 }
 
 /// Whether the place is in the class MAIN.
-fn is_in_main_class(scene: Scene<'_>) -> bool {
+fn is_in_main_class(scene: SourceContext<'_>) -> bool {
     match scene.table.class_at(scene.pos) {
         Some(class) => class.name.name.as_slice() == b"MAIN".as_slice(),
         None => false,
@@ -83,10 +91,12 @@ fn is_in_main_class(scene: Scene<'_>) -> bool {
 }
 
 /// `yield` and `quit` in the routine at which a program begins.
-fn in_main(scene: Scene<'_>, said: &mut Said) -> Result<(), AllocError> {
+fn in_main(scene: SourceContext<'_>, said: &mut Message) -> Result<(), AllocError> {
     said.say(&[
-        Part::Code(scene.name()),
-        Part::Words(" belongs to iters, and `main` is the routine at which a program begins."),
+        MessagePart::Code(scene.name()),
+        MessagePart::Words(
+            " belongs to iters, and `main` is the routine at which a program begins.",
+        ),
     ])?;
     said.say_words(if scene.tokens.is_word(scene.at, Word::Quit) {
         "To leave a loop write `break!`, and to leave `main` write `return`."
@@ -95,24 +105,24 @@ fn in_main(scene: Scene<'_>, said: &mut Said) -> Result<(), AllocError> {
     })
 }
 
-fn in_protect(scene: Scene<'_>, said: &mut Said) -> Result<(), AllocError> {
+fn in_protect(scene: SourceContext<'_>, said: &mut Message) -> Result<(), AllocError> {
     if matches!(scene.tokens.kind(scene.at), Some(TokenKind::IterName)) {
         said.say(&[
-            Part::Words("Between "),
-            Part::Code(scene.name()),
-            Part::Words(" and its loop stands a "),
-            Part::Code(b"protect".as_slice()),
-            Part::Words(", which would be left when the iter is resumed."),
+            MessagePart::Words("Between "),
+            MessagePart::Code(scene.name()),
+            MessagePart::Words(" and its loop stands a "),
+            MessagePart::Code(b"protect".as_slice()),
+            MessagePart::Words(", which would be left when the iter is resumed."),
         ])?;
         return said.say_words(
             "Take its value before the `protect`, or put the `protect` around the whole loop.",
         );
     }
     said.say(&[
-        Part::Code(scene.name()),
-        Part::Words(" doesn't stand in a "),
-        Part::Code(b"protect".as_slice()),
-        Part::Words("."),
+        MessagePart::Code(scene.name()),
+        MessagePart::Words(" doesn't stand in a "),
+        MessagePart::Code(b"protect".as_slice()),
+        MessagePart::Words("."),
     ])?;
     said.say_words("Put what may raise into the `protect`, and this behind it.")
 }

@@ -7,13 +7,13 @@ use crate::operators::unknown_operator;
 use crate::values::{
     Declared, class_named_at, declared_before, declares, is_in_force, receiver_before,
 };
-use sa_explain_scene::{Part, Quality, Said, Scene, count_in, feature_near};
-use sa_lex::{Sign, TokenKind, Word};
-use sa_tree::{Access, Class, NoMemory, Part as FeaturePart, Rule};
+use sa_ast::{Access, Class, FeatureBody as FeaturePart, NoMemory, Rule};
+use sa_diagnostics::{Message, MessagePart, Quality, SourceContext, count_in, feature_near};
+use sa_lexer::{Sign, TokenKind, Word};
 use std::alloc::AllocError;
 
 /// Says what has no feature of the name at the place, and which name is near.
-pub(crate) fn unknown_name(scene: Scene<'_>, said: &mut Said) -> Result<(), NoMemory> {
+pub(crate) fn unknown_name(scene: SourceContext<'_>, said: &mut Message) -> Result<(), NoMemory> {
     match scene.tokens.kind(scene.at) {
         Some(TokenKind::Sign(Sign::Hash)) => without_create(scene, said)?,
         Some(TokenKind::Sign(Sign::Assign)) => unknown_target(scene, said)?,
@@ -31,7 +31,7 @@ pub(crate) fn unknown_name(scene: Scene<'_>, said: &mut Said) -> Result<(), NoMe
 }
 
 /// `#A`, where A has no `create`.
-fn without_create(scene: Scene<'_>, said: &mut Said) -> Result<(), AllocError> {
+fn without_create(scene: SourceContext<'_>, said: &mut Message) -> Result<(), AllocError> {
     let name = scene.at.saturating_add(1);
     let Some(class) = class_named_at(scene, name) else {
         said.say_words("`#C` calls the routine `create` of C, and no class has one by itself.")?;
@@ -39,20 +39,20 @@ fn without_create(scene: Scene<'_>, said: &mut Said) -> Result<(), AllocError> {
     };
     said.mark.end = scene.tokens.end(name);
     said.say(&[
-        Part::Plain(class),
-        Part::Words(" has no routine `create`, which `#"),
-        Part::Plain(class),
-        Part::Words("` calls."),
+        MessagePart::Plain(class),
+        MessagePart::Words(" has no routine `create`, which `#"),
+        MessagePart::Plain(class),
+        MessagePart::Words("` calls."),
     ])?;
     said.say(&[
-        Part::Words("Write one in "),
-        Part::Plain(class),
-        Part::Words(", as `create:SAME is return new; end;`."),
+        MessagePart::Words("Write one in "),
+        MessagePart::Plain(class),
+        MessagePart::Words(", as `create:SAME is return new; end;`."),
     ])
 }
 
 /// `x := e`, where nothing has the name `x`.
-fn unknown_target(scene: Scene<'_>, said: &mut Said) -> Result<(), AllocError> {
+fn unknown_target(scene: SourceContext<'_>, said: &mut Message) -> Result<(), AllocError> {
     let tokens = scene.tokens;
     let Some(target) = scene.at.checked_sub(1) else {
         return Ok(());
@@ -68,15 +68,15 @@ fn unknown_target(scene: Scene<'_>, said: &mut Said) -> Result<(), AllocError> {
     }
     said.mark = scene.span(target);
     said.say(&[
-        Part::Words("Nothing that is named "),
-        Part::Code(tokens.bytes(target)),
-        Part::Words(" can be assigned here."),
+        MessagePart::Words("Nothing that is named "),
+        MessagePart::Code(tokens.bytes(target)),
+        MessagePart::Words(" can be assigned here."),
     ])?;
     near_or_new(scene, target, said)
 }
 
 /// A name near by, or how a variable of this name is declared.
-fn near_or_new(scene: Scene<'_>, at: usize, said: &mut Said) -> Result<(), AllocError> {
+fn near_or_new(scene: SourceContext<'_>, at: usize, said: &mut Message) -> Result<(), AllocError> {
     let name = scene.tokens.bytes(at);
     if let Some(near) = feature_near(scene, name)? {
         return did_you_mean(near, said);
@@ -85,24 +85,24 @@ fn near_or_new(scene: Scene<'_>, at: usize, said: &mut Said) -> Result<(), Alloc
         return said.say_words("See how the attribute is written where it is declared.");
     }
     said.say(&[
-        Part::Words("A variable is declared by `"),
-        Part::Plain(name),
-        Part::Words(" ::= ..`, or by its type, as `"),
-        Part::Plain(name),
-        Part::Words(":INT`."),
+        MessagePart::Words("A variable is declared by `"),
+        MessagePart::Plain(name),
+        MessagePart::Words(" ::= ..`, or by its type, as `"),
+        MessagePart::Plain(name),
+        MessagePart::Words(":INT`."),
     ])
 }
 
-fn did_you_mean(near: &[u8], said: &mut Said) -> Result<(), AllocError> {
+fn did_you_mean(near: &[u8], said: &mut Message) -> Result<(), AllocError> {
     said.say(&[
-        Part::Words("Did you mean "),
-        Part::Code(near),
-        Part::Words("?"),
+        MessagePart::Words("Did you mean "),
+        MessagePart::Code(near),
+        MessagePart::Words("?"),
     ])
 }
 
 /// A name of a routine, a variable or an iter that nothing has.
-fn unknown_feature(scene: Scene<'_>, said: &mut Said) -> Result<(), AllocError> {
+fn unknown_feature(scene: SourceContext<'_>, said: &mut Message) -> Result<(), AllocError> {
     let tokens = scene.tokens;
     if is_indexed(scene) {
         return without_index(scene, said);
@@ -119,9 +119,9 @@ fn unknown_feature(scene: Scene<'_>, said: &mut Said) -> Result<(), AllocError> 
         );
     } else {
         said.say(&[
-            Part::Words("Nothing that is named "),
-            Part::Code(scene.name()),
-            Part::Words(
+            MessagePart::Words("Nothing that is named "),
+            MessagePart::Code(scene.name()),
+            MessagePart::Words(
                 " is known here: no variable that is declared above, and no feature of the class.",
             ),
         ])?;
@@ -133,7 +133,7 @@ fn unknown_feature(scene: Scene<'_>, said: &mut Said) -> Result<(), AllocError> 
 }
 
 /// Whether a statement begins with the name, and `=` follows.
-fn compares_for_value(scene: Scene<'_>) -> bool {
+fn compares_for_value(scene: SourceContext<'_>) -> bool {
     begins_list(scene.tokens.kind_back(scene.at, 1))
         && scene
             .tokens
@@ -141,28 +141,28 @@ fn compares_for_value(scene: Scene<'_>) -> bool {
 }
 
 /// How a variable gets its value where it is declared.
-fn declared_so(name: &[u8], said: &mut Said) -> Result<(), AllocError> {
+fn declared_so(name: &[u8], said: &mut Message) -> Result<(), AllocError> {
     said.say(&[
-        Part::Words("`=` compares two values: to declare a variable write `"),
-        Part::Plain(name),
-        Part::Words(" ::= ..`."),
+        MessagePart::Words("`=` compares two values: to declare a variable write `"),
+        MessagePart::Plain(name),
+        MessagePart::Words(" ::= ..`."),
     ])
 }
 
 /// Whether `[` follows the name or its arguments: then the index may be what isn't there.
-fn is_indexed(scene: Scene<'_>) -> bool {
+fn is_indexed(scene: SourceContext<'_>) -> bool {
     let next = scene.at.saturating_add(1);
-    let behind = if scene.tokens.is_sign(next, Sign::LeftParen) {
-        scene.tokens.behind_bracket(next).unwrap_or(next)
+    let following = if scene.tokens.is_sign(next, Sign::LeftParen) {
+        scene.tokens.after_bracket(next).unwrap_or(next)
     } else {
         next
     };
-    scene.tokens.is_sign(behind, Sign::LeftBracket)
-        || (scene.tokens.is_sign(behind, Sign::Dot) && has_later_index(scene, behind))
+    scene.tokens.is_sign(following, Sign::LeftBracket)
+        || (scene.tokens.is_sign(following, Sign::Dot) && has_later_index(scene, following))
 }
 
 /// `x[i]`, where the class of x has no `aget`.
-fn without_index(scene: Scene<'_>, said: &mut Said) -> Result<(), AllocError> {
+fn without_index(scene: SourceContext<'_>, said: &mut Message) -> Result<(), AllocError> {
     if !scene
         .tokens
         .is_sign(scene.at.saturating_add(1), Sign::LeftBracket)
@@ -185,16 +185,16 @@ fn without_index(scene: Scene<'_>, said: &mut Said) -> Result<(), AllocError> {
         return Ok(());
     }
     said.say(&[
-        Part::Code(scene.name()),
-        Part::Words(" is of type "),
-        Part::Plain(name),
-        Part::Words(", which has no routine `aget`, which `[..]` calls."),
+        MessagePart::Code(scene.name()),
+        MessagePart::Words(" is of type "),
+        MessagePart::Plain(name),
+        MessagePart::Words(", which has no routine `aget`, which `[..]` calls."),
     ])?;
     said.say_words("Texts, arrays and FLIST have elements.")
 }
 
 /// Whether `[` stands behind a token before the statement ends.
-fn has_later_index(scene: Scene<'_>, from: usize) -> bool {
+fn has_later_index(scene: SourceContext<'_>, from: usize) -> bool {
     for at in from..scene.tokens.list.len() {
         if scene.tokens.is_sign(at, Sign::LeftBracket) {
             return true;
@@ -208,9 +208,9 @@ fn has_later_index(scene: Scene<'_>, from: usize) -> bool {
 
 /// What is called on has no feature of this name.
 fn lacks_feature(
-    scene: Scene<'_>,
+    scene: SourceContext<'_>,
     class: Option<&[u8]>,
-    said: &mut Said,
+    said: &mut Message,
 ) -> Result<(), AllocError> {
     let what = match scene.tokens.kind(scene.at) {
         Some(TokenKind::IterName) => "iter ",
@@ -227,24 +227,28 @@ fn class_lacks<'a>(
     class: &'a [u8],
     what: &'a str,
     name: &'a [u8],
-    said: &mut Said,
+    said: &mut Message,
 ) -> Result<(), AllocError> {
     said.say(&[
-        Part::Plain(class),
-        Part::Words(" has no "),
-        Part::Words(what),
-        Part::Code(name),
-        Part::Words("."),
+        MessagePart::Plain(class),
+        MessagePart::Words(" has no "),
+        MessagePart::Words(what),
+        MessagePart::Code(name),
+        MessagePart::Words("."),
     ])
 }
 
 /// What is called on, whose class isn't known, has no routine or iter of this name.
-fn something_lacks<'a>(what: &'a str, name: &'a [u8], said: &mut Said) -> Result<(), AllocError> {
+fn something_lacks<'a>(
+    what: &'a str,
+    name: &'a [u8],
+    said: &mut Message,
+) -> Result<(), AllocError> {
     said.say(&[
-        Part::Words("The class of what this is called on has no "),
-        Part::Words(what),
-        Part::Code(name),
-        Part::Words("."),
+        MessagePart::Words("The class of what this is called on has no "),
+        MessagePart::Words(what),
+        MessagePart::Code(name),
+        MessagePart::Words("."),
     ])
 }
 
@@ -256,7 +260,10 @@ enum Declares {
 }
 
 /// Says where a variable of this name is declared that isn't known here.
-fn declared_elsewhere(scene: Scene<'_>, said: &mut Said) -> Result<Declares, AllocError> {
+fn declared_elsewhere(
+    scene: SourceContext<'_>,
+    said: &mut Message,
+) -> Result<Declares, AllocError> {
     let tokens = scene.tokens;
     let name = scene.name();
     for at in scene.feature..tokens.list.len() {
@@ -269,10 +276,10 @@ fn declared_elsewhere(scene: Scene<'_>, said: &mut Said) -> Result<Declares, All
             && tokens.is_sign(at.saturating_add(1), Sign::Declare)
         {
             said.say(&[
-                Part::Code(name),
-                Part::Words(" is declared in line "),
-                Part::Number(tokens.line(at)),
-                Part::Words(
+                MessagePart::Code(name),
+                MessagePart::Words(" is declared in line "),
+                MessagePart::Number(tokens.line(at)),
+                MessagePart::Words(
                     ", and isn't known here: a variable is known from there to the end of its list of statements.",
                 ),
             ])?;
@@ -283,7 +290,7 @@ fn declared_elsewhere(scene: Scene<'_>, said: &mut Said) -> Result<Declares, All
 }
 
 /// An iter of this name, what it is called elsewhere, or a name near by.
-fn what_is_meant(scene: Scene<'_>, said: &mut Said) -> Result<(), AllocError> {
+fn what_is_meant(scene: SourceContext<'_>, said: &mut Message) -> Result<(), AllocError> {
     let name = scene.name();
     if says_other_kind(scene, said)? {
         return Ok(());
@@ -311,31 +318,35 @@ fn may_be(receiver: Option<&[u8]>, helper: Helper) -> bool {
 }
 
 /// Says which class of the library has a routine or an iter of this name, and in which file it is.
-fn the_library_has<'a>(helper: Helper, name: &'a [u8], said: &mut Said) -> Result<(), AllocError> {
+fn the_library_has<'a>(
+    helper: Helper,
+    name: &'a [u8],
+    said: &mut Message,
+) -> Result<(), AllocError> {
     said.say(&[
-        Part::Words("The library has it as `"),
-        Part::Words(helper.ty),
-        Part::Words("::"),
-        Part::Plain(name),
-        Part::Words("`, whose first argument is of type "),
-        Part::Words(helper.of),
-        Part::Words(": `sather lib "),
-        Part::Words(helper.file),
-        Part::Words("` prints the file."),
+        MessagePart::Words("The library has it as `"),
+        MessagePart::Words(helper.ty),
+        MessagePart::Words("::"),
+        MessagePart::Plain(name),
+        MessagePart::Words("`, whose first argument is of type "),
+        MessagePart::Words(helper.of),
+        MessagePart::Words(": `sather lib "),
+        MessagePart::Words(helper.file),
+        MessagePart::Words("` prints the file."),
     ])
 }
 
 /// Says that there is an iter of this name, or a routine, and whether there is.
-fn says_other_kind(scene: Scene<'_>, said: &mut Said) -> Result<bool, AllocError> {
+fn says_other_kind(scene: SourceContext<'_>, said: &mut Message) -> Result<bool, AllocError> {
     let name = scene.name();
     if let [routine @ .., b'!'] = name {
         if scene.table.count(routine, Quality::Any) == 0 {
             return Ok(false);
         }
         said.say(&[
-            Part::Words("There is a routine of this name: write "),
-            Part::Code(routine),
-            Part::Words("."),
+            MessagePart::Words("There is a routine of this name: write "),
+            MessagePart::Code(routine),
+            MessagePart::Words("."),
         ])?;
         return Ok(true);
     }
@@ -348,16 +359,20 @@ fn says_other_kind(scene: Scene<'_>, said: &mut Said) -> Result<bool, AllocError
     Ok(true)
 }
 
-fn there_is_iter(name: &[u8], said: &mut Said) -> Result<(), AllocError> {
+fn there_is_iter(name: &[u8], said: &mut Message) -> Result<(), AllocError> {
     said.say(&[
-        Part::Words("There is an iter of this name: write "),
-        Part::Code(name),
-        Part::Words(", in a loop."),
+        MessagePart::Words("There is an iter of this name: write "),
+        MessagePart::Code(name),
+        MessagePart::Words(", in a loop."),
     ])
 }
 
 /// Says what is known of a name beside its rule.
-pub(crate) fn about_name(scene: Scene<'_>, rule: Rule, said: &mut Said) -> Result<(), NoMemory> {
+pub(crate) fn about_name(
+    scene: SourceContext<'_>,
+    rule: Rule,
+    said: &mut Message,
+) -> Result<(), NoMemory> {
     match rule {
         Rule::PrivateFeature => private_feature(scene, said)?,
         Rule::DeclaredTwice => declared_twice(scene, said)?,
@@ -367,7 +382,7 @@ pub(crate) fn about_name(scene: Scene<'_>, rule: Rule, said: &mut Said) -> Resul
     Ok(())
 }
 
-fn private_feature(scene: Scene<'_>, said: &mut Said) -> Result<(), AllocError> {
+fn private_feature(scene: SourceContext<'_>, said: &mut Message) -> Result<(), AllocError> {
     let target = if scene.tokens.is_sign(scene.at, Sign::Assign) {
         scene.at.saturating_sub(1)
     } else {
@@ -379,8 +394,8 @@ fn private_feature(scene: Scene<'_>, said: &mut Said) -> Result<(), AllocError> 
     }
     said.mark = scene.span(target);
     said.say(&[
-        Part::Code(name),
-        Part::Words(" is private: the code of its own class alone sees it."),
+        MessagePart::Code(name),
+        MessagePart::Words(" is private: the code of its own class alone sees it."),
     ])?;
     said.say_words(if is_held(scene, name) {
         "Call it inside its class, or write `readonly` in place of `private`, which lets others read it."
@@ -390,7 +405,7 @@ fn private_feature(scene: Scene<'_>, said: &mut Said) -> Result<(), AllocError> 
 }
 
 /// Whether each private feature of this name is an attribute or a shared, which may be `readonly`.
-fn is_held(scene: Scene<'_>, name: &[u8]) -> bool {
+fn is_held(scene: SourceContext<'_>, name: &[u8]) -> bool {
     scene.table.count(name, Quality::Private) > 0
         && !scene
             .table
@@ -409,16 +424,16 @@ fn hides_code(class: &Class, name: &[u8]) -> bool {
 }
 
 /// A variable that is declared where one of its name is known.
-fn declared_twice(scene: Scene<'_>, said: &mut Said) -> Result<(), AllocError> {
+fn declared_twice(scene: SourceContext<'_>, said: &mut Message) -> Result<(), AllocError> {
     let tokens = scene.tokens;
     for at in scene.feature..scene.at {
         let is_same = tokens.is_lower(at) && tokens.bytes(at) == scene.name();
         if is_same && declares(tokens, at) && is_in_force(tokens, at, scene.at) {
             said.say(&[
-                Part::Code(scene.name()),
-                Part::Words(" is declared in line "),
-                Part::Number(tokens.line(at)),
-                Part::Words(" already, and is still known here."),
+                MessagePart::Code(scene.name()),
+                MessagePart::Words(" is declared in line "),
+                MessagePart::Number(tokens.line(at)),
+                MessagePart::Words(" already, and is still known here."),
             ])?;
             return said.say_words(
                 "To give it a value write `:=`; for another variable choose another name.",
@@ -429,7 +444,7 @@ fn declared_twice(scene: Scene<'_>, said: &mut Said) -> Result<(), AllocError> {
 }
 
 /// `#ROUT(..)` of older Sather, and `_` where no bind is.
-fn bad_bind(scene: Scene<'_>, said: &mut Said) -> Result<(), AllocError> {
+fn bad_bind(scene: SourceContext<'_>, said: &mut Message) -> Result<(), AllocError> {
     let tokens = scene.tokens;
     if !tokens.is_sign(scene.at, Sign::Underscore) {
         return Ok(());
@@ -445,7 +460,7 @@ fn bad_bind(scene: Scene<'_>, said: &mut Said) -> Result<(), AllocError> {
 }
 
 /// Whether `#ROUT` or `#ITER` stands a few tokens before the place.
-fn has_old_bind(scene: Scene<'_>) -> bool {
+fn has_old_bind(scene: SourceContext<'_>) -> bool {
     let tokens = scene.tokens;
     for at in scene.at.saturating_sub(12)..scene.at {
         let is_bound_type = tokens.is_word(at, Word::Rout) || tokens.is_word(at, Word::Iter);
@@ -457,18 +472,18 @@ fn has_old_bind(scene: Scene<'_>) -> bool {
 }
 
 /// The variable of a `typecase`.
-fn tested_variable(scene: Scene<'_>, said: &mut Said) -> Result<(), AllocError> {
+fn tested_variable(scene: SourceContext<'_>, said: &mut Message) -> Result<(), AllocError> {
     if scene.tokens.is_word(scene.at, Word::Typecase) {
         let name = scene.at.saturating_add(1);
         said.mark = scene.span(name);
         said.say(&[
-            Part::Code(scene.tokens.bytes(name)),
-            Part::Words(" is no variable of this feature, and a `typecase` tests one."),
+            MessagePart::Code(scene.tokens.bytes(name)),
+            MessagePart::Words(" is no variable of this feature, and a `typecase` tests one."),
         ])?;
         return said.say(&[
-            Part::Words("Put it into one first: `x ::= "),
-            Part::Plain(scene.tokens.bytes(name)),
-            Part::Words(";`, and test `x`."),
+            MessagePart::Words("Put it into one first: `x ::= "),
+            MessagePart::Plain(scene.tokens.bytes(name)),
+            MessagePart::Words(";`, and test `x`."),
         ]);
     }
     let target = if scene.tokens.is_sign(scene.at, Sign::Assign) {

@@ -2,8 +2,8 @@
 
 use crate::calls::begins_list;
 use crate::values::{operand_before, value_at};
-use sa_explain_scene::{Part, Said, Scene, Tokens, is_closing, is_opening};
-use sa_lex::{Sign, TokenKind, Word};
+use sa_diagnostics::{Message, MessagePart, SourceContext, TokenView, is_closing, is_opening};
+use sa_lexer::{Sign, TokenKind, Word};
 use std::alloc::AllocError;
 
 /// The routine that an operator of two operands calls on the left one.
@@ -39,9 +39,9 @@ fn called_in_turn(sign: Sign) -> Option<&'static str> {
 
 /// Says which routine an operator calls that isn't there.
 pub(crate) fn unknown_operator(
-    scene: Scene<'_>,
+    scene: SourceContext<'_>,
     sign: Sign,
-    said: &mut Said,
+    said: &mut Message,
 ) -> Result<(), AllocError> {
     if takes_output(scene, sign) {
         return behind_output(scene, said);
@@ -64,16 +64,19 @@ pub(crate) fn unknown_operator(
 }
 
 /// An operator whose left operand is all that the statement has from its `#OUT` on.
-fn behind_output(scene: Scene<'_>, said: &mut Said) -> Result<(), AllocError> {
+fn behind_output(scene: SourceContext<'_>, said: &mut Message) -> Result<(), AllocError> {
     said.say(&[
-        Part::Code(scene.name()),
-        Part::Words(" has all that stands before it, from `#OUT` on, on its left."),
+        MessagePart::Code(scene.name()),
+        MessagePart::Words(" has all that stands before it, from `#OUT` on, on its left."),
     ])?;
     said.say_words("Put what is computed or compared in parentheses, as `#OUT + (a - b)`.")
 }
 
 /// Says how `void` is asked for, where `=` or `/=` has no type for it.
-pub(crate) fn comparison_with_void(scene: Scene<'_>, said: &mut Said) -> Result<(), AllocError> {
+pub(crate) fn comparison_with_void(
+    scene: SourceContext<'_>,
+    said: &mut Message,
+) -> Result<(), AllocError> {
     match scene.tokens.kind(scene.at) {
         Some(TokenKind::Sign(sign)) if compares_void(scene) => about_void(scene, *sign, said),
         _ => Ok(()),
@@ -81,7 +84,7 @@ pub(crate) fn comparison_with_void(scene: Scene<'_>, said: &mut Said) -> Result<
 }
 
 /// Whether `=` or `/=` stands at the place, and `void` alone is one of its operands.
-fn compares_void(scene: Scene<'_>) -> bool {
+fn compares_void(scene: SourceContext<'_>) -> bool {
     let tokens = scene.tokens;
     let next = scene.at.saturating_add(1);
     let is_comparison = tokens.is_sign(scene.at, Sign::Equal)
@@ -92,10 +95,10 @@ fn compares_void(scene: Scene<'_>) -> bool {
 }
 
 /// `x = void`
-fn about_void(scene: Scene<'_>, sign: Sign, said: &mut Said) -> Result<(), AllocError> {
+fn about_void(scene: SourceContext<'_>, sign: Sign, said: &mut Message) -> Result<(), AllocError> {
     said.say(&[
-        Part::Code(scene.name()),
-        Part::Words(
+        MessagePart::Code(scene.name()),
+        MessagePart::Words(
             " compares two values, and `void` is none: whether `x` is void is asked by `void(x)`.",
         ),
     ])?;
@@ -107,7 +110,7 @@ fn about_void(scene: Scene<'_>, sign: Sign, said: &mut Said) -> Result<(), Alloc
 }
 
 /// Whether the left operand of a sign is what the statement has from its `#OUT` on.
-fn takes_output(scene: Scene<'_>, sign: Sign) -> bool {
+fn takes_output(scene: SourceContext<'_>, sign: Sign) -> bool {
     let is_loose = matches!(
         sign,
         Sign::Minus
@@ -122,7 +125,7 @@ fn takes_output(scene: Scene<'_>, sign: Sign) -> bool {
 }
 
 /// Whether the statement of a token begins by `#OUT`, and no bracket is open at the token.
-fn follows_output(tokens: Tokens<'_>, at: usize) -> bool {
+fn follows_output(tokens: TokenView<'_>, at: usize) -> bool {
     let mut depth = 0usize;
     for back in 0..at {
         let place = at - 1 - back;
@@ -177,24 +180,28 @@ fn equality_or(sign: Sign) -> &'static str {
 }
 
 /// The left operand has no such routine.
-fn lacks<'a>(scene: Scene<'a>, name: &'a [u8], said: &mut Said) -> Result<(), AllocError> {
+fn lacks<'a>(
+    scene: SourceContext<'a>,
+    name: &'a [u8],
+    said: &mut Message,
+) -> Result<(), AllocError> {
     let class = operand_before(scene, scene.at);
     let what = match class {
-        Some(class) => Part::Plain(class),
-        None => Part::Words("The class of the left operand"),
+        Some(class) => MessagePart::Plain(class),
+        None => MessagePart::Words("The class of the left operand"),
     };
     said.say(&[
         what,
-        Part::Words(" has no routine "),
-        Part::Code(name),
-        Part::Words(", which "),
-        Part::Code(scene.name()),
-        Part::Words(" calls."),
+        MessagePart::Words(" has no routine "),
+        MessagePart::Code(name),
+        MessagePart::Words(", which "),
+        MessagePart::Code(scene.name()),
+        MessagePart::Words(" calls."),
     ])
 }
 
 /// Whether an operator has no left operand.
-fn is_prefix(tokens: Tokens<'_>, at: usize) -> bool {
+fn is_prefix(tokens: TokenView<'_>, at: usize) -> bool {
     match tokens.kind_back(at, 1) {
         Some(TokenKind::Sign(sign)) => !matches!(
             sign,
@@ -217,9 +224,9 @@ fn is_prefix(tokens: Tokens<'_>, at: usize) -> bool {
 
 /// Says why no routine fits that an operator calls.
 pub(crate) fn operator_without_fit(
-    scene: Scene<'_>,
+    scene: SourceContext<'_>,
     sign: Sign,
-    said: &mut Said,
+    said: &mut Message,
 ) -> Result<(), AllocError> {
     if takes_output(scene, sign) {
         return behind_output(scene, said);
@@ -234,10 +241,10 @@ pub(crate) fn operator_without_fit(
     let right = value_at(scene, scene.at.saturating_add(1));
     let (Some(left), Some(right)) = (operand_before(scene, scene.at), right) else {
         said.say(&[
-            Part::Code(scene.name()),
-            Part::Words(" calls "),
-            Part::Code(name),
-            Part::Words(
+            MessagePart::Code(scene.name()),
+            MessagePart::Words(" calls "),
+            MessagePart::Code(name),
+            MessagePart::Words(
                 " of its left operand with the right one, and none that is there takes it, or gives a value just where one is wanted.",
             ),
         ])?;
@@ -249,14 +256,14 @@ pub(crate) fn operator_without_fit(
         return Ok(());
     }
     said.say(&[
-        Part::Code(scene.name()),
-        Part::Words(" calls "),
-        Part::Code(name),
-        Part::Words(" of "),
-        Part::Plain(left),
-        Part::Words(" with "),
-        Part::Plain(right.class),
-        Part::Words(" on its right, and none fits."),
+        MessagePart::Code(scene.name()),
+        MessagePart::Words(" calls "),
+        MessagePart::Code(name),
+        MessagePart::Words(" of "),
+        MessagePart::Plain(left),
+        MessagePart::Words(" with "),
+        MessagePart::Plain(right.class),
+        MessagePart::Words(" on its right, and none fits."),
     ])?;
     said.say_words(
         "Make both of one type: the text of a value is `x.str`, and a byte's number `c.int`.",

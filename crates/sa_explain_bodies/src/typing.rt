@@ -2,13 +2,13 @@
 
 use crate::calls::is_other;
 use crate::values::{Declared, declared_before, value_at};
-use sa_explain_scene::{Part, Said, Scene, plain_name};
-use sa_lex::{Sign, TokenKind, Word};
-use sa_tree::NoMemory;
+use sa_ast::NoMemory;
+use sa_diagnostics::{Message, MessagePart, SourceContext, plain_name};
+use sa_lexer::{Sign, TokenKind, Word};
 use std::alloc::AllocError;
 
 /// Says which type is wanted at the place, and which one is there.
-pub(crate) fn wrong_type(scene: Scene<'_>, said: &mut Said) -> Result<(), NoMemory> {
+pub(crate) fn wrong_type(scene: SourceContext<'_>, said: &mut Message) -> Result<(), NoMemory> {
     let tokens = scene.tokens;
     match tokens.kind(scene.at) {
         Some(TokenKind::Sign(Sign::Assign)) => assigned(scene, said)?,
@@ -18,8 +18,8 @@ pub(crate) fn wrong_type(scene: Scene<'_>, said: &mut Said) -> Result<(), NoMemo
         Some(TokenKind::IterName) => condition(scene, "`while!` and `until!`", said)?,
         Some(TokenKind::Word(Word::And | Word::Or)) => {
             said.say(&[
-                Part::Code(scene.name()),
-                Part::Words(" is of two BOOLs, and one of its operands is none."),
+                MessagePart::Code(scene.name()),
+                MessagePart::Words(" is of two BOOLs, and one of its operands is none."),
             ])?;
             said.say_words("Write a comparison on each side, as `n > 0 and n < 10`.")?;
         }
@@ -41,7 +41,7 @@ pub(crate) fn wrong_type(scene: Scene<'_>, said: &mut Said) -> Result<(), NoMemo
 }
 
 /// `x:T := e` at its first name, or a name as a statement.
-fn declared_or_alone(scene: Scene<'_>, said: &mut Said) -> Result<(), AllocError> {
+fn declared_or_alone(scene: SourceContext<'_>, said: &mut Message) -> Result<(), AllocError> {
     let next = scene.at.saturating_add(1);
     if scene.tokens.is_sign(next, Sign::Semicolon) || scene.tokens.is_word(next, Word::End) {
         return alone(scene, said);
@@ -53,7 +53,7 @@ fn declared_or_alone(scene: Scene<'_>, said: &mut Said) -> Result<(), AllocError
 }
 
 /// The `:=` behind the names and the type of a declaration.
-fn assign_behind(scene: Scene<'_>, name: usize) -> Option<usize> {
+fn assign_behind(scene: SourceContext<'_>, name: usize) -> Option<usize> {
     let tokens = scene.tokens;
     for at in name..tokens.list.len() {
         if tokens.is_sign(at, Sign::Assign) {
@@ -67,7 +67,7 @@ fn assign_behind(scene: Scene<'_>, name: usize) -> Option<usize> {
 }
 
 /// `x := e` at its `:=`.
-fn assigned(scene: Scene<'_>, said: &mut Said) -> Result<(), AllocError> {
+fn assigned(scene: SourceContext<'_>, said: &mut Message) -> Result<(), AllocError> {
     let Some(target) = scene.at.checked_sub(1) else {
         return Ok(());
     };
@@ -79,10 +79,10 @@ fn assigned(scene: Scene<'_>, said: &mut Said) -> Result<(), AllocError> {
 
 /// A variable that is named at a token and the value behind a `:=`.
 fn between(
-    scene: Scene<'_>,
+    scene: SourceContext<'_>,
     name: usize,
     assign: usize,
-    said: &mut Said,
+    said: &mut Message,
 ) -> Result<(), AllocError> {
     let value = assign.saturating_add(1);
     let (
@@ -102,28 +102,28 @@ fn between(
     }
     said.mark = scene.span(value);
     said.say(&[
-        Part::Code(scene.tokens.bytes(name)),
-        Part::Words(" is declared "),
-        Part::Plain(declared),
-        Part::Words(", and "),
-        Part::Code(scene.tokens.bytes(value)),
-        Part::Words(" is of type "),
-        Part::Plain(found.class),
-        Part::Words("."),
+        MessagePart::Code(scene.tokens.bytes(name)),
+        MessagePart::Words(" is declared "),
+        MessagePart::Plain(declared),
+        MessagePart::Words(", and "),
+        MessagePart::Code(scene.tokens.bytes(value)),
+        MessagePart::Words(" is of type "),
+        MessagePart::Plain(found.class),
+        MessagePart::Words("."),
     ])?;
     said.say(&[
-        Part::Words("Write a value of type "),
-        Part::Plain(declared),
-        Part::Words(", or declare "),
-        Part::Code(scene.tokens.bytes(name)),
-        Part::Words(" as "),
-        Part::Plain(found.class),
-        Part::Words("."),
+        MessagePart::Words("Write a value of type "),
+        MessagePart::Plain(declared),
+        MessagePart::Words(", or declare "),
+        MessagePart::Code(scene.tokens.bytes(name)),
+        MessagePart::Words(" as "),
+        MessagePart::Plain(found.class),
+        MessagePart::Words("."),
     ])
 }
 
 /// A condition that is no BOOL.
-fn condition(scene: Scene<'_>, of: &str, said: &mut Said) -> Result<(), AllocError> {
+fn condition(scene: SourceContext<'_>, of: &str, said: &mut Message) -> Result<(), AllocError> {
     let next = scene.at.saturating_add(1);
     let value = if scene.tokens.is_sign(next, Sign::LeftParen) {
         next.saturating_add(1)
@@ -131,25 +131,25 @@ fn condition(scene: Scene<'_>, of: &str, said: &mut Said) -> Result<(), AllocErr
         next
     };
     said.say(&[
-        Part::Words("Each condition of "),
-        Part::Words(of),
-        Part::Words(" is a BOOL, and one that stands here isn't."),
+        MessagePart::Words("Each condition of "),
+        MessagePart::Words(of),
+        MessagePart::Words(" is a BOOL, and one that stands here isn't."),
     ])?;
     if let Some(found) = value_at(scene, value)
         && found.class != b"BOOL".as_slice()
     {
         said.say(&[
-            Part::Code(scene.tokens.bytes(value)),
-            Part::Words(" is of type "),
-            Part::Plain(found.class),
-            Part::Words("."),
+            MessagePart::Code(scene.tokens.bytes(value)),
+            MessagePart::Words(" is of type "),
+            MessagePart::Plain(found.class),
+            MessagePart::Words("."),
         ])?;
     }
     said.say_words("Write a comparison, as `n /= 0`, or `~void(x)` for an object that is there.")
 }
 
 /// A value that a routine gives back or an iter yields.
-fn given_back(scene: Scene<'_>, said: &mut Said) -> Result<(), AllocError> {
+fn given_back(scene: SourceContext<'_>, said: &mut Message) -> Result<(), AllocError> {
     let Some((_, feature)) = scene.table.feature_at(scene.pos) else {
         return Ok(());
     };
@@ -163,23 +163,25 @@ fn given_back(scene: Scene<'_>, said: &mut Said) -> Result<(), AllocError> {
     match &feature.result {
         None => {
             said.say(&[
-                Part::Code(name),
-                Part::Words(" has no result, and "),
-                Part::Code(scene.name()),
-                Part::Words(" stands here with a value."),
+                MessagePart::Code(name),
+                MessagePart::Words(" has no result, and "),
+                MessagePart::Code(scene.name()),
+                MessagePart::Words(" stands here with a value."),
             ])?;
             said.say(&[
-                Part::Words("Write the type of the result behind the name and its arguments, as `"),
-                Part::Plain(name),
-                Part::Words(":INT is`, or take the value away."),
+                MessagePart::Words(
+                    "Write the type of the result behind the name and its arguments, as `",
+                ),
+                MessagePart::Plain(name),
+                MessagePart::Words(":INT is`, or take the value away."),
             ])
         }
         Some(_) if !has_value => {
             said.say(&[
-                Part::Code(name),
-                Part::Words(" has a result, and "),
-                Part::Code(scene.name()),
-                Part::Words(" stands here without a value."),
+                MessagePart::Code(name),
+                MessagePart::Words(" has a result, and "),
+                MessagePart::Code(scene.name()),
+                MessagePart::Words(" stands here without a value."),
             ])?;
             said.say_words("Write the value behind the word.")
         }
@@ -189,11 +191,11 @@ fn given_back(scene: Scene<'_>, said: &mut Said) -> Result<(), AllocError> {
 
 /// A value of another type than that of the result.
 fn other_result<'a>(
-    scene: Scene<'a>,
+    scene: SourceContext<'a>,
     name: &'a [u8],
     wanted: Option<&'a [u8]>,
     value: usize,
-    said: &mut Said,
+    said: &mut Message,
 ) -> Result<(), AllocError> {
     let Some(wanted) = wanted else {
         return Ok(());
@@ -202,35 +204,35 @@ fn other_result<'a>(
         Some(found) if is_other(scene, wanted, found.class) => {
             said.mark = scene.span(value);
             said.say(&[
-                Part::Words("The result of "),
-                Part::Code(name),
-                Part::Words(" is "),
-                Part::Plain(wanted),
-                Part::Words(", and "),
-                Part::Code(scene.tokens.bytes(value)),
-                Part::Words(" is of type "),
-                Part::Plain(found.class),
-                Part::Words("."),
+                MessagePart::Words("The result of "),
+                MessagePart::Code(name),
+                MessagePart::Words(" is "),
+                MessagePart::Plain(wanted),
+                MessagePart::Words(", and "),
+                MessagePart::Code(scene.tokens.bytes(value)),
+                MessagePart::Words(" is of type "),
+                MessagePart::Plain(found.class),
+                MessagePart::Words("."),
             ])?;
         }
         _ => said.say(&[
-            Part::Words("The result of "),
-            Part::Code(name),
-            Part::Words(" is "),
-            Part::Plain(wanted),
-            Part::Words(", and the value behind "),
-            Part::Code(scene.name()),
-            Part::Words(" is of another type."),
+            MessagePart::Words("The result of "),
+            MessagePart::Code(name),
+            MessagePart::Words(" is "),
+            MessagePart::Plain(wanted),
+            MessagePart::Words(", and the value behind "),
+            MessagePart::Code(scene.name()),
+            MessagePart::Words(" is of another type."),
         ])?,
     }
     said.say_words("Write a value of the result's type, or give the routine another result.")
 }
 
 /// A value that stands alone as a statement.
-fn alone(scene: Scene<'_>, said: &mut Said) -> Result<(), AllocError> {
+fn alone(scene: SourceContext<'_>, said: &mut Message) -> Result<(), AllocError> {
     said.say(&[
-        Part::Code(scene.name()),
-        Part::Words(" is a value, and no statement: nothing is done with it."),
+        MessagePart::Code(scene.name()),
+        MessagePart::Words(" is a value, and no statement: nothing is done with it."),
     ])?;
     said.say_words("Print it, as `#OUT + x`, assign it, or give it back by `return`.")
 }

@@ -1,14 +1,14 @@
 //! What tokens alone tell of types: the class of a literal, of a new object, and of a variable that is declared with one.
 //! Where they don't tell, no class is given.
 
-use sa_explain_scene::{Scene, Tokens, has_parameter, is_block};
-use sa_lex::{Sign, TokenKind, Word};
+use sa_diagnostics::{SourceContext, TokenView, has_parameter, is_block};
+use sa_lexer::{Sign, TokenKind, Word};
 
 /// The class of a value, which is its type, and the number of the token behind it.
 #[derive(Clone, Copy)]
 pub(crate) struct Value<'a> {
     pub class: &'a [u8],
-    pub behind: usize,
+    pub following: usize,
 }
 
 /// A class as it is named.
@@ -30,35 +30,35 @@ impl<'a> Named<'a> {
 #[derive(Clone, Copy)]
 struct Primary<'a> {
     named: Named<'a>,
-    behind: usize,
+    following: usize,
 }
 
 /// The value that begins at a token, where it is a literal, a new object or a variable and nothing is done with it.
-pub(crate) fn value_at<'a>(scene: Scene<'a>, at: usize) -> Option<Value<'a>> {
+pub(crate) fn value_at<'a>(scene: SourceContext<'a>, at: usize) -> Option<Value<'a>> {
     let primary = primary_at(scene, at)?;
-    if goes_on(scene.tokens.kind(primary.behind)) {
+    if goes_on(scene.tokens.kind(primary.following)) {
         return None;
     }
     Some(Value {
         class: primary.named.plain()?,
-        behind: primary.behind,
+        following: primary.following,
     })
 }
 
 /// The literal, the new object or the variable at a token.
-fn primary_at<'a>(scene: Scene<'a>, at: usize) -> Option<Primary<'a>> {
+fn primary_at<'a>(scene: SourceContext<'a>, at: usize) -> Option<Primary<'a>> {
     if scene.tokens.is_lower(at) {
         let place = declaration_before(scene, at)?;
         return Some(Primary {
             named: class_of_declaration(scene, place)?,
-            behind: at.saturating_add(1),
+            following: at.saturating_add(1),
         });
     }
     made_at(scene, at)
 }
 
 /// The literal or the new object at a token.
-fn made_at<'a>(scene: Scene<'a>, at: usize) -> Option<Primary<'a>> {
+fn made_at<'a>(scene: SourceContext<'a>, at: usize) -> Option<Primary<'a>> {
     let tokens = scene.tokens;
     if tokens.is_sign(at, Sign::Hash) {
         return object_at(scene, at.saturating_add(1));
@@ -75,35 +75,35 @@ fn made_at<'a>(scene: Scene<'a>, at: usize) -> Option<Primary<'a>> {
             class: class.as_bytes(),
             has_types: false,
         },
-        behind: behind_texts(tokens, at),
+        following: behind_texts(tokens, at),
     })
 }
 
 /// The number of the token behind a literal, and behind the texts that go on with a text.
-fn behind_texts(tokens: Tokens<'_>, at: usize) -> usize {
+fn behind_texts(tokens: TokenView<'_>, at: usize) -> usize {
     let from = at.saturating_add(1);
-    for behind in from..tokens.list.len() {
-        if !matches!(tokens.kind(behind), Some(TokenKind::Text(_))) {
-            return behind;
+    for following in from..tokens.list.len() {
+        if !matches!(tokens.kind(following), Some(TokenKind::Text(_))) {
+            return following;
         }
     }
     tokens.list.len()
 }
 
 /// The new object whose class is named at a token.
-fn object_at<'a>(scene: Scene<'a>, name: usize) -> Option<Primary<'a>> {
+fn object_at<'a>(scene: SourceContext<'a>, name: usize) -> Option<Primary<'a>> {
     let ty = type_at(scene, name)?;
-    if scene.tokens.is_sign(ty.behind, Sign::LeftParen) {
+    if scene.tokens.is_sign(ty.following, Sign::LeftParen) {
         return Some(Primary {
             named: ty.named,
-            behind: scene.tokens.behind_bracket(ty.behind)?,
+            following: scene.tokens.after_bracket(ty.following)?,
         });
     }
     Some(ty)
 }
 
 /// The class that is named at a token, with the types behind it where it has parameters.
-fn type_at<'a>(scene: Scene<'a>, at: usize) -> Option<Primary<'a>> {
+fn type_at<'a>(scene: SourceContext<'a>, at: usize) -> Option<Primary<'a>> {
     let next = at.saturating_add(1);
     if let Some(class) = class_named_at(scene, at) {
         return Some(Primary {
@@ -111,7 +111,7 @@ fn type_at<'a>(scene: Scene<'a>, at: usize) -> Option<Primary<'a>> {
                 class,
                 has_types: false,
             },
-            behind: next,
+            following: next,
         });
     }
     let class = scene.table.class(scene.tokens.bytes(at))?;
@@ -123,12 +123,12 @@ fn type_at<'a>(scene: Scene<'a>, at: usize) -> Option<Primary<'a>> {
             class: class.name.name.as_slice(),
             has_types: true,
         },
-        behind: scene.tokens.behind_bracket(next)?,
+        following: scene.tokens.after_bracket(next)?,
     })
 }
 
 /// The name at a token, where it is that of a class without parameters, and of no parameter.
-pub(crate) fn class_named_at<'a>(scene: Scene<'a>, at: usize) -> Option<&'a [u8]> {
+pub(crate) fn class_named_at<'a>(scene: SourceContext<'a>, at: usize) -> Option<&'a [u8]> {
     let name = scene.tokens.bytes(at);
     let class = scene.table.class(name)?;
     if !class.params.is_empty() || is_parameter(scene, name) {
@@ -138,7 +138,7 @@ pub(crate) fn class_named_at<'a>(scene: Scene<'a>, at: usize) -> Option<&'a [u8]
 }
 
 /// Whether the class that the place is in has a parameter of this name.
-fn is_parameter(scene: Scene<'_>, name: &[u8]) -> bool {
+fn is_parameter(scene: SourceContext<'_>, name: &[u8]) -> bool {
     match scene.table.class_at(scene.pos) {
         Some(class) => has_parameter(class, name),
         None => true,
@@ -165,7 +165,7 @@ pub(crate) struct Declared<'a> {
 }
 
 /// The declaration of the variable that is named at a token, with its class where this is its type.
-pub(crate) fn declared_before<'a>(scene: Scene<'a>, at: usize) -> Option<Declared<'a>> {
+pub(crate) fn declared_before<'a>(scene: SourceContext<'a>, at: usize) -> Option<Declared<'a>> {
     let place = declaration_before(scene, at)?;
     let class = match class_of_declaration(scene, place) {
         Some(named) => named.plain(),
@@ -175,7 +175,7 @@ pub(crate) fn declared_before<'a>(scene: Scene<'a>, at: usize) -> Option<Declare
 }
 
 /// The place of the last declaration in the feature of the variable that is named at a token, if it is still in force there.
-fn declaration_before(scene: Scene<'_>, at: usize) -> Option<usize> {
+fn declaration_before(scene: SourceContext<'_>, at: usize) -> Option<usize> {
     let tokens = scene.tokens;
     let name = tokens.bytes(at);
     let mut found = None;
@@ -194,18 +194,18 @@ fn declaration_before(scene: Scene<'_>, at: usize) -> Option<usize> {
 }
 
 /// Whether a `typecase` tests the variable at a token, so that its branches see another type.
-fn is_tested(tokens: Tokens<'_>, at: usize) -> bool {
+fn is_tested(tokens: TokenView<'_>, at: usize) -> bool {
     tokens.is_word_back(at, 1, Word::Typecase)
 }
 
 /// Whether the name at a token is declared there: `::=` follows, or names between commas and `:`.
-pub(crate) fn declares(tokens: Tokens<'_>, at: usize) -> bool {
+pub(crate) fn declares(tokens: TokenView<'_>, at: usize) -> bool {
     let next = at.saturating_add(1);
     tokens.is_sign(next, Sign::Declare) || colon_behind(tokens, at).is_some()
 }
 
 /// The `:` behind a list of names that goes on from a token.
-fn colon_behind(tokens: Tokens<'_>, name: usize) -> Option<usize> {
+fn colon_behind(tokens: TokenView<'_>, name: usize) -> Option<usize> {
     for at in name.saturating_add(1)..tokens.list.len() {
         if tokens.is_sign(at, Sign::Colon) {
             return Some(at);
@@ -218,7 +218,7 @@ fn colon_behind(tokens: Tokens<'_>, name: usize) -> Option<usize> {
 }
 
 /// Whether what is declared at a token is still known at a later one: the list of statements around it hasn't ended.
-pub(crate) fn is_in_force(tokens: Tokens<'_>, from: usize, to: usize) -> bool {
+pub(crate) fn is_in_force(tokens: TokenView<'_>, from: usize, to: usize) -> bool {
     let mut depth = 0usize;
     for at in from..to {
         let kind = tokens.kind(at);
@@ -242,12 +242,12 @@ fn ends_statements(kind: Option<&TokenKind>) -> bool {
 }
 
 /// The class of what is declared at a token.
-fn class_of_declaration<'a>(scene: Scene<'a>, at: usize) -> Option<Named<'a>> {
+fn class_of_declaration<'a>(scene: SourceContext<'a>, at: usize) -> Option<Named<'a>> {
     let tokens = scene.tokens;
     let next = at.saturating_add(1);
     if tokens.is_sign(next, Sign::Declare) {
         let value = made_at(scene, next.saturating_add(1))?;
-        if goes_on(tokens.kind(value.behind)) {
+        if goes_on(tokens.kind(value.following)) {
             return None;
         }
         return Some(value.named);
@@ -258,26 +258,26 @@ fn class_of_declaration<'a>(scene: Scene<'a>, at: usize) -> Option<Named<'a>> {
 
 /// The class of what stands before the `.` at a token, with or without types behind its name, where it is a literal, a new object or a
 /// variable.
-pub(crate) fn receiver_before<'a>(scene: Scene<'a>, dot: usize) -> Option<&'a [u8]> {
+pub(crate) fn receiver_before<'a>(scene: SourceContext<'a>, dot: usize) -> Option<&'a [u8]> {
     let first = first_of_primary(scene.tokens, dot)?;
     if is_part(scene.tokens, first) {
         return None;
     }
     let value = primary_at(scene, first)?;
-    if value.behind != dot {
+    if value.following != dot {
         return None;
     }
     Some(value.named.class)
 }
 
 /// The class of the whole left operand of the operator at a token, where it is a literal, a new object or a variable.
-pub(crate) fn operand_before<'a>(scene: Scene<'a>, operator: usize) -> Option<&'a [u8]> {
+pub(crate) fn operand_before<'a>(scene: SourceContext<'a>, operator: usize) -> Option<&'a [u8]> {
     let first = first_of_primary(scene.tokens, operator)?;
     if !begins_operand(scene.tokens.kind_back(first, 1)) {
         return None;
     }
     let value = primary_at(scene, first)?;
-    if value.behind != operator {
+    if value.following != operator {
         return None;
     }
     value.named.plain()
@@ -314,8 +314,8 @@ fn begins_operand(kind: Option<&TokenKind>) -> bool {
 }
 
 /// The token with which a primary begins that ends before a token.
-fn first_of_primary(tokens: Tokens<'_>, behind: usize) -> Option<usize> {
-    let mut last = behind.checked_sub(1)?;
+fn first_of_primary(tokens: TokenView<'_>, following: usize) -> Option<usize> {
+    let mut last = following.checked_sub(1)?;
     for closing in [Sign::RightParen, Sign::RightBrace] {
         if tokens.is_sign(last, closing) {
             last = tokens.opening_of(last)?.checked_sub(1)?;
@@ -328,7 +328,7 @@ fn first_of_primary(tokens: Tokens<'_>, behind: usize) -> Option<usize> {
 }
 
 /// Whether the token at a place goes on with what stands before it.
-fn is_part(tokens: Tokens<'_>, at: usize) -> bool {
+fn is_part(tokens: TokenView<'_>, at: usize) -> bool {
     tokens.is_sign_back(at, 1, Sign::Dot)
         || tokens.is_sign_back(at, 1, Sign::DoubleColon)
         || matches!(tokens.kind_back(at, 1), Some(TokenKind::Text(_)))

@@ -1,10 +1,10 @@
 //! Which features and signatures lead to a place of the prelude, by calls in the prelude alone.
 
-use crate::reached::{Call, Reached};
-use crate::walk::Seen;
-use sa_core::{Core, SigCore, Target};
+use crate::targets::{Call, CalledFeature};
+use crate::walk::CallSearch;
+use sa_ast::NoMemory;
 use sa_graph::{Graph, word};
-use sa_tree::NoMemory;
+use sa_typed::{Target, TypedProgram, TypedSignature};
 use std::alloc::Global;
 
 /// The number of the prelude among the texts of a program.
@@ -19,7 +19,7 @@ struct Nodes {
 }
 
 impl Nodes {
-    fn of(core: &Core) -> Nodes {
+    fn of(core: &TypedProgram) -> Nodes {
         Nodes {
             features: core.features.len(),
             signatures: core.sigs.len(),
@@ -30,10 +30,10 @@ impl Nodes {
         self.features.saturating_add(self.signatures)
     }
 
-    fn reached(self, to: Reached) -> usize {
+    fn reached(self, to: CalledFeature) -> usize {
         match to {
-            Reached::Feature(number) => number as usize,
-            Reached::Signature(number) => self.features.saturating_add(number as usize),
+            CalledFeature::Feature(number) => number as usize,
+            CalledFeature::Signature(number) => self.features.saturating_add(number as usize),
         }
     }
 }
@@ -65,8 +65,8 @@ impl Leading {
     /// the prelude and those signatures that lead to one of them.
     pub(crate) fn to_place(
         alloc: Global,
-        core: &Core,
-        seen: &Seen<'_>,
+        core: &TypedProgram,
+        seen: &CallSearch<'_>,
     ) -> Result<Leading, NoMemory> {
         let nodes = Nodes::of(core);
         let mut edges = Edges {
@@ -85,13 +85,18 @@ impl Leading {
     }
 
     /// Whether what is called leads there.
-    pub(crate) fn holds(&self, to: Reached) -> bool {
+    pub(crate) fn holds(&self, to: CalledFeature) -> bool {
         matches!(self.marks.get(self.nodes.reached(to)), Some(true))
     }
 }
 
 /// Adds an edge for each call in a feature of the prelude.
-fn add_calls(edges: &mut Edges, nodes: Nodes, core: &Core, calls: &[Call]) -> Result<(), NoMemory> {
+fn add_calls(
+    edges: &mut Edges,
+    nodes: Nodes,
+    core: &TypedProgram,
+    calls: &[Call],
+) -> Result<(), NoMemory> {
     for call in calls {
         if let Some(feature) = call.feature
             && is_of_prelude(core, feature)
@@ -103,7 +108,7 @@ fn add_calls(edges: &mut Edges, nodes: Nodes, core: &Core, calls: &[Call]) -> Re
 }
 
 /// Whether the text of a feature stands in the prelude.
-fn is_of_prelude(core: &Core, feature: u32) -> bool {
+fn is_of_prelude(core: &TypedProgram, feature: u32) -> bool {
     match core.features.get(feature as usize) {
         Some(feature) => feature.pos.file == PRELUDE,
         None => false,
@@ -111,14 +116,18 @@ fn is_of_prelude(core: &Core, feature: u32) -> bool {
 }
 
 /// Adds an edge from each signature to each of the features that implement it.
-fn add_signatures(edges: &mut Edges, nodes: Nodes, sigs: &[SigCore]) -> Result<(), NoMemory> {
+fn add_signatures(
+    edges: &mut Edges,
+    nodes: Nodes,
+    sigs: &[TypedSignature],
+) -> Result<(), NoMemory> {
     for (number, sig) in sigs.iter().enumerate() {
         add_signature(edges, nodes.features.saturating_add(number), sig)?;
     }
     Ok(())
 }
 
-fn add_signature(edges: &mut Edges, node: usize, sig: &SigCore) -> Result<(), NoMemory> {
+fn add_signature(edges: &mut Edges, node: usize, sig: &TypedSignature) -> Result<(), NoMemory> {
     for implementation in sig.impls.as_slice() {
         if let Target::Feature(feature) = implementation.target {
             edges.add(node, feature as usize)?;

@@ -5,7 +5,7 @@
 mod leading;
 mod lines;
 mod raised;
-mod reached;
+mod targets;
 mod walk;
 
 pub use lines::{Line, lines_to};

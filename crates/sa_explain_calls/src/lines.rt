@@ -2,8 +2,8 @@
 
 use crate::leading::{Leading, PRELUDE};
 use crate::walk::seen_in;
-use sa_core::Core;
-use sa_tree::{NoMemory, Pos};
+use sa_ast::{NoMemory, Pos};
+use sa_typed::TypedProgram;
 use std::alloc::Global;
 
 /// A line of a text of a program.
@@ -22,7 +22,7 @@ pub struct Line {
 /// # Errors
 ///
 /// `NoMemory` where memory runs out.
-pub fn lines_to(alloc: Global, core: &Core, place: Pos) -> Result<Vec<Line>, NoMemory> {
+pub fn lines_to(alloc: Global, core: &TypedProgram, place: Pos) -> Result<Vec<Line>, NoMemory> {
     let seen = seen_in(alloc, core, place)?;
     let leading = Leading::to_place(alloc, core, &seen)?;
     let mut lines = Vec::new(alloc);
@@ -36,9 +36,9 @@ pub fn lines_to(alloc: Global, core: &Core, place: Pos) -> Result<Vec<Line>, NoM
 }
 
 /// The line that a position is in: as many line feeds as stand before it, and one more.
-fn line_at(core: &Core, pos: Pos) -> Line {
-    let before = match core.feeds.get(pos.file as usize) {
-        Some(feeds) => feeds.as_slice().partition_point(|at| *at < pos.at),
+fn line_at(core: &TypedProgram, pos: Pos) -> Line {
+    let before = match core.newlines.get(pos.file as usize) {
+        Some(newlines) => newlines.as_slice().partition_point(|at| *at < pos.at),
         None => 0,
     };
     Line {

@@ -1,9 +1,9 @@
 //! The static type of what is raised at a place.
 
 use crate::walk::{Body, seen_in};
-use sa_core::{CalledCore, Core, ExprCore, Target};
+use sa_ast::{NoMemory, Pos, Ty};
 use sa_prelude::BuiltinFeature;
-use sa_tree::{NoMemory, Pos, Ty};
+use sa_typed::{Target, TypedCallee, TypedExpr, TypedProgram};
 use std::alloc::Global;
 
 /// The static type of what is raised at a place; nothing where it isn't known, or not the same in each instance of the class.
@@ -11,7 +11,11 @@ use std::alloc::Global;
 /// # Errors
 ///
 /// `NoMemory` where memory runs out.
-pub fn raised_type(alloc: Global, core: &Core, place: Pos) -> Result<Option<&Ty>, NoMemory> {
+pub fn raised_type(
+    alloc: Global,
+    core: &TypedProgram,
+    place: Pos,
+) -> Result<Option<&Ty>, NoMemory> {
     let seen = seen_in(alloc, core, place)?;
     Ok(the_same(seen.raised.as_slice()))
 }
@@ -29,36 +33,36 @@ fn the_same<'a>(types: &[Option<&'a Ty>]) -> Option<&'a Ty> {
 }
 
 /// The static type of an expression in a body.
-pub(crate) fn type_of<'a>(body: Body<'a>, expr: &'a ExprCore) -> Option<&'a Ty> {
+pub(crate) fn type_of<'a>(body: Body<'a>, expr: &'a TypedExpr) -> Option<&'a Ty> {
     match expr {
-        ExprCore::Int(_) => type_named(body.core, b"INT"),
-        ExprCore::Bool(_) | ExprCore::IsVoid(_) | ExprCore::And(_, _) | ExprCore::Or(_, _) => {
+        TypedExpr::Int(_) => type_named(body.core, b"INT"),
+        TypedExpr::Bool(_) | TypedExpr::IsVoid(_) | TypedExpr::And(_, _) | TypedExpr::Or(_, _) => {
             type_named(body.core, b"BOOL")
         }
-        ExprCore::Char(_) => type_named(body.core, b"CHAR"),
-        ExprCore::Text(_) => type_named(body.core, b"STR"),
-        ExprCore::VoidOf(ty)
-        | ExprCore::New(ty, _)
-        | ExprCore::NewArray(ty, _, _)
-        | ExprCore::Items(ty, _, _)
-        | ExprCore::Widen(ty, _, _)
-        | ExprCore::Bind(_, _, _, ty, _) => type_at(body.core, *ty),
-        ExprCore::Me => type_at(body.core, body.feature?.class),
-        ExprCore::Var(number) => type_at(body.core, *body.feature?.vars.get(*number as usize)?),
-        ExprCore::Call(called, _, _, _) => given_by(body.core, *called),
-        ExprCore::IterCall(site, _, _, _) => given_by(body.core, body.site(*site)?.called),
-        ExprCore::Swapped(Target::Feature(number), _, _, _) => given_at(body.core, *number),
-        ExprCore::Swapped(_, _, _, _) | ExprCore::Exception => None,
+        TypedExpr::Char(_) => type_named(body.core, b"CHAR"),
+        TypedExpr::Text(_) => type_named(body.core, b"STR"),
+        TypedExpr::VoidValue(ty)
+        | TypedExpr::New(ty, _)
+        | TypedExpr::NewArray(ty, _, _)
+        | TypedExpr::Array(ty, _, _)
+        | TypedExpr::Box(ty, _, _)
+        | TypedExpr::Bind(_, _, _, ty, _) => type_at(body.core, *ty),
+        TypedExpr::SelfRef => type_at(body.core, body.feature?.class),
+        TypedExpr::Var(number) => type_at(body.core, *body.feature?.vars.get(*number as usize)?),
+        TypedExpr::Call(called, _, _, _) => given_by(body.core, *called),
+        TypedExpr::IterCall(site, _, _, _) => given_by(body.core, body.site(*site)?.called),
+        TypedExpr::Reversed(Target::Feature(number), _, _, _) => given_at(body.core, *number),
+        TypedExpr::Reversed(_, _, _, _) | TypedExpr::Exception => None,
     }
 }
 
 /// The type with a number.
-fn type_at(core: &Core, number: u32) -> Option<&Ty> {
+fn type_at(core: &TypedProgram, number: u32) -> Option<&Ty> {
     Some(&core.types.get(number as usize)?.ty)
 }
 
 /// The type that is a class of this name without parameters.
-fn type_named<'a>(core: &'a Core, name: &[u8]) -> Option<&'a Ty> {
+fn type_named<'a>(core: &'a TypedProgram, name: &[u8]) -> Option<&'a Ty> {
     core.types
         .as_slice()
         .iter()
@@ -74,16 +78,16 @@ fn is_named(ty: &Ty, name: &[u8]) -> bool {
 }
 
 /// The type of what a call gives.
-fn given_by(core: &Core, called: CalledCore) -> Option<&Ty> {
+fn given_by(core: &TypedProgram, called: TypedCallee) -> Option<&Ty> {
     match called {
-        CalledCore::Static(target, of) => given_of(core, target, of),
-        CalledCore::Dispatch(number) => core.sigs.get(number as usize)?.sig.result.as_ref(),
-        CalledCore::Bound => None,
+        TypedCallee::Static(target, of) => given_of(core, target, of),
+        TypedCallee::Dispatch(number) => core.sigs.get(number as usize)?.sig.result.as_ref(),
+        TypedCallee::Bound => None,
     }
 }
 
 /// The type of what a feature of a type gives.
-fn given_of(core: &Core, target: Target, of: u32) -> Option<&Ty> {
+fn given_of(core: &TypedProgram, target: Target, of: u32) -> Option<&Ty> {
     match target {
         Target::Feature(number) => given_at(core, number),
         Target::Builtin(feature) => given_built_in(core, feature, of),
@@ -97,12 +101,12 @@ fn given_of(core: &Core, target: Target, of: u32) -> Option<&Ty> {
 }
 
 /// The type of what the feature with a number gives.
-fn given_at(core: &Core, number: u32) -> Option<&Ty> {
+fn given_at(core: &TypedProgram, number: u32) -> Option<&Ty> {
     type_at(core, core.features.get(number as usize)?.result?)
 }
 
 /// The type of what a built-in feature of a type gives, where it isn't BOOL or INT, which are seldom raised.
-fn given_built_in(core: &Core, feature: BuiltinFeature, of: u32) -> Option<&Ty> {
+fn given_built_in(core: &TypedProgram, feature: BuiltinFeature, of: u32) -> Option<&Ty> {
     match feature {
         BuiltinFeature::IntStr
         | BuiltinFeature::CharStr

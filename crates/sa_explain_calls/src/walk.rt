@@ -2,17 +2,17 @@
 //! raised at it.
 
 use crate::raised::type_of;
-use crate::reached::{Call, Reached, reached_at, reached_by};
-use sa_core::{
-    ArgCore, ArmCore, Core, ExprCore, FeatureCore, LoopExit, SharedCore, SiteCore, StmtCore,
-    TestCore,
+use crate::targets::{Call, CalledFeature, reached_at, reached_by};
+use sa_ast::{NoMemory, Pos, Ty};
+use sa_typed::{
+    LoopExit, Site, TypedArg, TypedArm, TypedBranch, TypedExpr, TypedFeature, TypedProgram,
+    TypedShared, TypedStmt,
 };
-use sa_tree::{NoMemory, Pos, Ty};
 use std::alloc::Global;
 
 /// What was seen.
 #[derive(Drop)]
-pub(crate) struct Seen<'a> {
+pub(crate) struct CallSearch<'a> {
     /// The place that is asked for.
     place: Pos,
     pub calls: Vec<Call>,
@@ -25,21 +25,25 @@ pub(crate) struct Seen<'a> {
 /// The feature that is gone over, or none in the initialiser of a shared.
 #[derive(Clone, Copy)]
 pub(crate) struct Body<'a> {
-    pub core: &'a Core,
+    pub core: &'a TypedProgram,
     pub number: Option<u32>,
-    pub feature: Option<&'a FeatureCore>,
+    pub feature: Option<&'a TypedFeature>,
 }
 
 impl<'a> Body<'a> {
     /// An iter call in the text of the feature.
-    pub(crate) fn site(self, number: u32) -> Option<&'a SiteCore> {
+    pub(crate) fn site(self, number: u32) -> Option<&'a Site> {
         self.feature?.sites.get(number as usize)
     }
 }
 
 /// What is seen in the whole program.
-pub(crate) fn seen_in<'a>(alloc: Global, core: &'a Core, place: Pos) -> Result<Seen<'a>, NoMemory> {
-    let mut seen = Seen {
+pub(crate) fn seen_in<'a>(
+    alloc: Global,
+    core: &'a TypedProgram,
+    place: Pos,
+) -> Result<CallSearch<'a>, NoMemory> {
+    let mut seen = CallSearch {
         place,
         calls: Vec::new(alloc),
         holders: Vec::new(alloc),
@@ -55,9 +59,9 @@ pub(crate) fn seen_in<'a>(alloc: Global, core: &'a Core, place: Pos) -> Result<S
 }
 
 fn see_shared<'a>(
-    seen: &mut Seen<'a>,
-    core: &'a Core,
-    shared: &'a SharedCore,
+    seen: &mut CallSearch<'a>,
+    core: &'a TypedProgram,
+    shared: &'a TypedShared,
 ) -> Result<(), NoMemory> {
     let body = Body {
         core,
@@ -68,10 +72,10 @@ fn see_shared<'a>(
 }
 
 fn see_feature<'a>(
-    seen: &mut Seen<'a>,
-    core: &'a Core,
+    seen: &mut CallSearch<'a>,
+    core: &'a TypedProgram,
     number: usize,
-    feature: &'a FeatureCore,
+    feature: &'a TypedFeature,
 ) -> Result<(), NoMemory> {
     let body = Body {
         core,
@@ -82,7 +86,7 @@ fn see_feature<'a>(
 }
 
 /// Keeps the feature, where the position is the place that is asked for.
-fn see_pos(seen: &mut Seen<'_>, body: Body<'_>, pos: Pos) -> Result<(), NoMemory> {
+fn see_pos(seen: &mut CallSearch<'_>, body: Body<'_>, pos: Pos) -> Result<(), NoMemory> {
     if pos == seen.place
         && let Some(number) = body.number
     {
@@ -93,9 +97,9 @@ fn see_pos(seen: &mut Seen<'_>, body: Body<'_>, pos: Pos) -> Result<(), NoMemory
 
 /// Keeps a call.
 fn see_call(
-    seen: &mut Seen<'_>,
+    seen: &mut CallSearch<'_>,
     body: Body<'_>,
-    to: Option<Reached>,
+    to: Option<CalledFeature>,
     pos: Pos,
 ) -> Result<(), NoMemory> {
     if let Some(to) = to {
@@ -110,9 +114,9 @@ fn see_call(
 
 /// Keeps the type of what is raised, where it is raised at the place.
 fn see_raise<'a>(
-    seen: &mut Seen<'a>,
+    seen: &mut CallSearch<'a>,
     body: Body<'a>,
-    value: &'a ExprCore,
+    value: &'a TypedExpr,
     pos: Pos,
 ) -> Result<(), NoMemory> {
     if pos == seen.place {
@@ -122,58 +126,62 @@ fn see_raise<'a>(
 }
 
 #[cycle(see_expr)]
-fn see_expr<'a>(seen: &mut Seen<'a>, body: Body<'a>, expr: &'a ExprCore) -> Result<(), NoMemory> {
+fn see_expr<'a>(
+    seen: &mut CallSearch<'a>,
+    body: Body<'a>,
+    expr: &'a TypedExpr,
+) -> Result<(), NoMemory> {
     match expr {
-        ExprCore::IsVoid(of) => see_expr(seen, body, of.get()),
-        ExprCore::New(_, pos) => see_pos(seen, body, *pos),
-        ExprCore::NewArray(_, of, pos) | ExprCore::Widen(_, of, pos) => {
+        TypedExpr::IsVoid(of) => see_expr(seen, body, of.get()),
+        TypedExpr::New(_, pos) => see_pos(seen, body, *pos),
+        TypedExpr::NewArray(_, of, pos) | TypedExpr::Box(_, of, pos) => {
             see_pos(seen, body, *pos)?;
             see_expr(seen, body, of.get())
         }
-        ExprCore::Items(_, elements, pos) => {
+        TypedExpr::Array(_, elements, pos) => {
             see_pos(seen, body, *pos)?;
             see_exprs(seen, body, elements.as_slice())
         }
-        ExprCore::Call(called, on, args, pos) | ExprCore::Bind(called, on, args, _, pos) => {
+        TypedExpr::Call(called, on, args, pos) | TypedExpr::Bind(called, on, args, _, pos) => {
             see_call(seen, body, reached_by(*called), *pos)?;
             see_expr(seen, body, on.get())?;
             see_args(seen, body, args.as_slice())
         }
-        ExprCore::IterCall(site, on, args, pos) => {
+        TypedExpr::IterCall(site, on, args, pos) => {
             see_call(seen, body, reached_from(body, *site), *pos)?;
             see_expr(seen, body, on.get())?;
             see_args(seen, body, args.as_slice())
         }
-        ExprCore::Swapped(target, first, second, pos) => {
+        TypedExpr::Reversed(target, first, second, pos) => {
             see_call(seen, body, reached_at(*target), *pos)?;
             see_expr(seen, body, first.get())?;
             see_expr(seen, body, second.get())
         }
-        ExprCore::And(first, second) | ExprCore::Or(first, second) => {
+        TypedExpr::And(first, second) | TypedExpr::Or(first, second) => {
             see_expr(seen, body, first.get())?;
             see_expr(seen, body, second.get())
         }
-        ExprCore::Int(_)
-        | ExprCore::Bool(_)
-        | ExprCore::Char(_)
-        | ExprCore::Text(_)
-        | ExprCore::VoidOf(_)
-        | ExprCore::Me
-        | ExprCore::Var(_)
-        | ExprCore::Exception => Ok(()),
+        TypedExpr::Int(_)
+        | TypedExpr::Bool(_)
+        | TypedExpr::Char(_)
+        | TypedExpr::Text(_)
+        | TypedExpr::VoidValue(_)
+        | TypedExpr::SelfRef
+        | TypedExpr::Var(_)
+        | TypedExpr::Exception => Ok(()),
     }
 }
 
 /// What an iter call at a site comes to.
-fn reached_from(body: Body<'_>, site: u32) -> Option<Reached> {
+fn reached_from(body: Body<'_>, site: u32) -> Option<CalledFeature> {
     reached_by(body.site(site)?.called)
 }
 
 #[cycle(see_expr)]
 fn see_exprs<'a>(
-    seen: &mut Seen<'a>,
+    seen: &mut CallSearch<'a>,
     body: Body<'a>,
-    exprs: &'a [ExprCore],
+    exprs: &'a [TypedExpr],
 ) -> Result<(), NoMemory> {
     for expr in exprs {
         see_expr(seen, body, expr)?;
@@ -182,7 +190,11 @@ fn see_exprs<'a>(
 }
 
 #[cycle(see_expr)]
-fn see_args<'a>(seen: &mut Seen<'a>, body: Body<'a>, args: &'a [ArgCore]) -> Result<(), NoMemory> {
+fn see_args<'a>(
+    seen: &mut CallSearch<'a>,
+    body: Body<'a>,
+    args: &'a [TypedArg],
+) -> Result<(), NoMemory> {
     for arg in args {
         see_arg(seen, body, arg)?;
     }
@@ -190,17 +202,21 @@ fn see_args<'a>(seen: &mut Seen<'a>, body: Body<'a>, args: &'a [ArgCore]) -> Res
 }
 
 #[cycle(see_expr)]
-fn see_arg<'a>(seen: &mut Seen<'a>, body: Body<'a>, arg: &'a ArgCore) -> Result<(), NoMemory> {
+fn see_arg<'a>(
+    seen: &mut CallSearch<'a>,
+    body: Body<'a>,
+    arg: &'a TypedArg,
+) -> Result<(), NoMemory> {
     match arg {
-        ArgCore::Value(_, value) => see_expr(seen, body, value),
-        ArgCore::Variable(_, _) | ArgCore::Left => Ok(()),
+        TypedArg::Value(_, value) => see_expr(seen, body, value),
+        TypedArg::Variable(_, _) | TypedArg::Open => Ok(()),
     }
 }
 
 fn see_option_expr<'a>(
-    seen: &mut Seen<'a>,
+    seen: &mut CallSearch<'a>,
     body: Body<'a>,
-    expr: &'a Option<ExprCore>,
+    expr: &'a Option<TypedExpr>,
 ) -> Result<(), NoMemory> {
     match expr {
         Some(expr) => see_expr(seen, body, expr),
@@ -208,7 +224,11 @@ fn see_option_expr<'a>(
     }
 }
 
-fn see_exit<'a>(seen: &mut Seen<'a>, body: Body<'a>, left: &'a LoopExit) -> Result<(), NoMemory> {
+fn see_exit<'a>(
+    seen: &mut CallSearch<'a>,
+    body: Body<'a>,
+    left: &'a LoopExit,
+) -> Result<(), NoMemory> {
     match left {
         LoopExit::Break => Ok(()),
         LoopExit::While(test) | LoopExit::Until(test) => see_expr(seen, body, test),
@@ -216,17 +236,21 @@ fn see_exit<'a>(seen: &mut Seen<'a>, body: Body<'a>, left: &'a LoopExit) -> Resu
 }
 
 #[cycle(see_stmt)]
-fn see_stmt<'a>(seen: &mut Seen<'a>, body: Body<'a>, stmt: &'a StmtCore) -> Result<(), NoMemory> {
+fn see_stmt<'a>(
+    seen: &mut CallSearch<'a>,
+    body: Body<'a>,
+    stmt: &'a TypedStmt,
+) -> Result<(), NoMemory> {
     match stmt {
-        StmtCore::Let(_, value) | StmtCore::Do(value) => see_expr(seen, body, value),
-        StmtCore::If(tests, other) => {
+        TypedStmt::Assign(_, value) | TypedStmt::ExprStmt(value) => see_expr(seen, body, value),
+        TypedStmt::If(tests, other) => {
             see_tests(seen, body, tests.as_slice())?;
             see_stmts(seen, body, other.as_slice())
         }
-        StmtCore::Loop(_, inside) => see_stmts(seen, body, inside.as_slice()),
-        StmtCore::Leave(left) => see_exit(seen, body, left),
-        StmtCore::Return(value) | StmtCore::Yield(value) => see_option_expr(seen, body, value),
-        StmtCore::TypeCase(_, arms, other, pos) => {
+        TypedStmt::Loop(_, inside) => see_stmts(seen, body, inside.as_slice()),
+        TypedStmt::ExitLoop(left) => see_exit(seen, body, left),
+        TypedStmt::Return(value) | TypedStmt::Yield(value) => see_option_expr(seen, body, value),
+        TypedStmt::TypeCase(_, arms, other, pos) => {
             see_pos(seen, body, *pos)?;
             see_arms(seen, body, arms.as_slice())?;
             match other {
@@ -234,7 +258,7 @@ fn see_stmt<'a>(seen: &mut Seen<'a>, body: Body<'a>, stmt: &'a StmtCore) -> Resu
                 None => Ok(()),
             }
         }
-        StmtCore::Protect(inside, arms, other) => {
+        TypedStmt::Protect(inside, arms, other) => {
             see_stmts(seen, body, inside.as_slice())?;
             see_arms(seen, body, arms.as_slice())?;
             match other {
@@ -242,21 +266,21 @@ fn see_stmt<'a>(seen: &mut Seen<'a>, body: Body<'a>, stmt: &'a StmtCore) -> Resu
                 None => Ok(()),
             }
         }
-        StmtCore::Raise(value, pos) => {
+        TypedStmt::Raise(value, pos) => {
             see_pos(seen, body, *pos)?;
             see_raise(seen, body, value, *pos)?;
             see_expr(seen, body, value)
         }
-        StmtCore::Quit => Ok(()),
-        StmtCore::Stop(_, pos) => see_pos(seen, body, *pos),
+        TypedStmt::Quit => Ok(()),
+        TypedStmt::Fault(_, pos) => see_pos(seen, body, *pos),
     }
 }
 
 #[cycle(see_stmt)]
 fn see_stmts<'a>(
-    seen: &mut Seen<'a>,
+    seen: &mut CallSearch<'a>,
     body: Body<'a>,
-    stmts: &'a [StmtCore],
+    stmts: &'a [TypedStmt],
 ) -> Result<(), NoMemory> {
     for stmt in stmts {
         see_stmt(seen, body, stmt)?;
@@ -266,9 +290,9 @@ fn see_stmts<'a>(
 
 #[cycle(see_stmt)]
 fn see_tests<'a>(
-    seen: &mut Seen<'a>,
+    seen: &mut CallSearch<'a>,
     body: Body<'a>,
-    tests: &'a [TestCore],
+    tests: &'a [TypedBranch],
 ) -> Result<(), NoMemory> {
     for test in tests {
         see_test(seen, body, test)?;
@@ -277,13 +301,21 @@ fn see_tests<'a>(
 }
 
 #[cycle(see_stmt)]
-fn see_test<'a>(seen: &mut Seen<'a>, body: Body<'a>, test: &'a TestCore) -> Result<(), NoMemory> {
+fn see_test<'a>(
+    seen: &mut CallSearch<'a>,
+    body: Body<'a>,
+    test: &'a TypedBranch,
+) -> Result<(), NoMemory> {
     see_exprs(seen, body, test.tests.as_slice())?;
     see_stmts(seen, body, test.body.as_slice())
 }
 
 #[cycle(see_stmt)]
-fn see_arms<'a>(seen: &mut Seen<'a>, body: Body<'a>, arms: &'a [ArmCore]) -> Result<(), NoMemory> {
+fn see_arms<'a>(
+    seen: &mut CallSearch<'a>,
+    body: Body<'a>,
+    arms: &'a [TypedArm],
+) -> Result<(), NoMemory> {
     for arm in arms {
         see_arm(seen, body, arm)?;
     }
@@ -291,6 +323,10 @@ fn see_arms<'a>(seen: &mut Seen<'a>, body: Body<'a>, arms: &'a [ArmCore]) -> Res
 }
 
 #[cycle(see_stmt)]
-fn see_arm<'a>(seen: &mut Seen<'a>, body: Body<'a>, arm: &'a ArmCore) -> Result<(), NoMemory> {
+fn see_arm<'a>(
+    seen: &mut CallSearch<'a>,
+    body: Body<'a>,
+    arm: &'a TypedArm,
+) -> Result<(), NoMemory> {
     see_stmts(seen, body, arm.body.as_slice())
 }

@@ -1,11 +1,11 @@
 //! Signs, statements and declarations of other languages, as the tokens beside the place show them.
 
-use sa_explain_scene::{Part, Said, Scene, Span};
-use sa_lex::{Sign, TokenKind, Word};
+use sa_diagnostics::{Message, MessagePart, SourceContext, Span};
+use sa_lexer::{Sign, TokenKind, Word};
 use std::alloc::AllocError;
 
 /// Signs of other languages that are two signs here: `==`, `+=`, `++`, `<>`, `//`.
-pub(crate) fn doubled(scene: Scene<'_>, said: &mut Said) -> Result<(), AllocError> {
+pub(crate) fn doubled(scene: SourceContext<'_>, said: &mut Message) -> Result<(), AllocError> {
     two_signs(scene, scene.at.saturating_sub(1), said)?;
     if said.is_silent() {
         two_signs(scene, scene.at, said)?;
@@ -14,7 +14,7 @@ pub(crate) fn doubled(scene: Scene<'_>, said: &mut Said) -> Result<(), AllocErro
 }
 
 /// The sign at a token and the one directly behind it.
-fn two_signs(scene: Scene<'_>, at: usize, said: &mut Said) -> Result<(), AllocError> {
+fn two_signs(scene: SourceContext<'_>, at: usize, said: &mut Message) -> Result<(), AllocError> {
     let tokens = scene.tokens;
     let next = at.saturating_add(1);
     let (Some(TokenKind::Sign(one)), Some(TokenKind::Sign(other))) = (
@@ -74,25 +74,25 @@ fn of_two_signs(one: Sign, other: Sign) -> Option<Elsewhere> {
 }
 
 /// Statements and declarations of other languages, by the name that stands before the token.
-pub(crate) fn foreign(scene: Scene<'_>, said: &mut Said) -> Result<(), AllocError> {
+pub(crate) fn foreign(scene: SourceContext<'_>, said: &mut Message) -> Result<(), AllocError> {
     let tokens = scene.tokens;
     let before = tokens.bytes_back(scene.at, 1);
     if is_type_first(scene) {
         said.say_words("A declaration has the name first, then `:` and the type.")?;
         return said.say(&[
-            Part::Words("Write `"),
-            Part::Plain(scene.name()),
-            Part::Words(":"),
-            Part::Plain(before),
-            Part::Words("`."),
+            MessagePart::Words("Write `"),
+            MessagePart::Plain(scene.name()),
+            MessagePart::Words(":"),
+            MessagePart::Plain(before),
+            MessagePart::Words("`."),
         ]);
     }
     let Some(remedy) = statement_here(before) else {
         return Ok(());
     };
     said.say(&[
-        Part::Code(before),
-        Part::Words(" is no word of this language."),
+        MessagePart::Code(before),
+        MessagePart::Words(" is no word of this language."),
     ])?;
     said.say_words(remedy)
 }
@@ -120,7 +120,7 @@ fn statement_here(word: &[u8]) -> Option<&'static str> {
 }
 
 /// Whether a statement begins by a type and a name in one line, as a declaration does elsewhere.
-fn is_type_first(scene: Scene<'_>) -> bool {
+fn is_type_first(scene: SourceContext<'_>) -> bool {
     let tokens = scene.tokens;
     let ty = scene.at.saturating_sub(1);
     tokens.is_class_name(ty)

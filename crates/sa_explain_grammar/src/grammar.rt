@@ -1,11 +1,11 @@
 //! A token that can't stand where it does: E06.
 
-use crate::around::open_around;
 use crate::elsewhere::{doubled, foreign};
+use crate::enclosing::open_around;
 use crate::slips::slip;
-use sa_explain_scene::{Part, Said, Scene, Span, opened_before};
-use sa_lex::{Sign, TokenKind, Word};
-use sa_tree::NoMemory;
+use sa_ast::NoMemory;
+use sa_diagnostics::{Message, MessagePart, SourceContext, Span, open_blocks_before};
+use sa_lexer::{Sign, TokenKind, Word};
 use std::alloc::AllocError;
 
 /// Says what is wrong at the token, or before it.
@@ -13,8 +13,8 @@ use std::alloc::AllocError;
 /// # Errors
 ///
 /// `NoMemory` where memory runs out.
-pub fn unexpected(scene: Scene<'_>, said: &mut Said) -> Result<(), NoMemory> {
-    let opened = opened_before(scene.alloc, scene.tokens, scene.at)?;
+pub fn unexpected(scene: SourceContext<'_>, said: &mut Message) -> Result<(), NoMemory> {
+    let opened = open_blocks_before(scene.alloc, scene.tokens, scene.at)?;
     near_by(scene, said)?;
     if said.is_silent() {
         foreign(scene, said)?;
@@ -32,7 +32,7 @@ pub fn unexpected(scene: Scene<'_>, said: &mut Said) -> Result<(), NoMemory> {
 }
 
 /// What the token and the ones beside it tell.
-fn near_by(scene: Scene<'_>, said: &mut Said) -> Result<(), AllocError> {
+fn near_by(scene: SourceContext<'_>, said: &mut Message) -> Result<(), AllocError> {
     let tokens = scene.tokens;
     let at = scene.at;
     if tokens.is_sign(at, Sign::RightParen) && tokens.is_sign_back(at, 1, Sign::LeftParen) {
@@ -54,7 +54,7 @@ fn near_by(scene: Scene<'_>, said: &mut Said) -> Result<(), AllocError> {
 }
 
 /// `f()`
-fn empty_parentheses(scene: Scene<'_>, said: &mut Said) -> Result<(), AllocError> {
+fn empty_parentheses(scene: SourceContext<'_>, said: &mut Message) -> Result<(), AllocError> {
     let Some(open) = scene.at.checked_sub(1) else {
         return Ok(());
     };
@@ -74,7 +74,7 @@ fn empty_parentheses(scene: Scene<'_>, said: &mut Said) -> Result<(), AllocError
 }
 
 /// `x:int`, `class stack`, `#stack`
-fn small_class_name(scene: Scene<'_>, said: &mut Said) -> Result<(), AllocError> {
+fn small_class_name(scene: SourceContext<'_>, said: &mut Message) -> Result<(), AllocError> {
     let tokens = scene.tokens;
     let at = scene.at;
     let wants_class = tokens.is_sign_back(at, 1, Sign::Colon)
@@ -93,20 +93,24 @@ fn small_class_name(scene: Scene<'_>, said: &mut Said) -> Result<(), AllocError>
         *byte = byte.to_ascii_uppercase();
     }
     said.say(&[
-        Part::Words("Here stands the name of a class, and these are in capitals: "),
-        Part::Code(scene.name()),
-        Part::Words(" is a name of a routine or a variable."),
+        MessagePart::Words("Here stands the name of a class, and these are in capitals: "),
+        MessagePart::Code(scene.name()),
+        MessagePart::Words(" is a name of a routine or a variable."),
     ])?;
     write_it(name.as_slice(), said)
 }
 
 /// Says that this is to be written there.
-fn write_it(code: &[u8], said: &mut Said) -> Result<(), AllocError> {
-    said.say(&[Part::Words("Write "), Part::Code(code), Part::Words(".")])
+fn write_it(code: &[u8], said: &mut Message) -> Result<(), AllocError> {
+    said.say(&[
+        MessagePart::Words("Write "),
+        MessagePart::Code(code),
+        MessagePart::Words("."),
+    ])
 }
 
 /// `x:INT = 3`
-fn equal_sign(scene: Scene<'_>, said: &mut Said) -> Result<(), AllocError> {
+fn equal_sign(scene: SourceContext<'_>, said: &mut Message) -> Result<(), AllocError> {
     let tokens = scene.tokens;
     let is_declaration = tokens.is_class_name(scene.at.saturating_sub(1))
         && tokens.is_sign_back(scene.at, 2, Sign::Colon);
@@ -118,7 +122,7 @@ fn equal_sign(scene: Scene<'_>, said: &mut Said) -> Result<(), AllocError> {
 }
 
 /// A word of the language where a name is declared or assigned.
-fn word_as_name(scene: Scene<'_>, said: &mut Said) -> Result<(), AllocError> {
+fn word_as_name(scene: SourceContext<'_>, said: &mut Message) -> Result<(), AllocError> {
     let tokens = scene.tokens;
     let Some(TokenKind::Word(word)) = tokens.kind(scene.at) else {
         return Ok(());
@@ -132,14 +136,14 @@ fn word_as_name(scene: Scene<'_>, said: &mut Said) -> Result<(), AllocError> {
         return Ok(());
     }
     said.say(&[
-        Part::Code(scene.name()),
-        Part::Words(" is a word of the language, so it is no name."),
+        MessagePart::Code(scene.name()),
+        MessagePart::Words(" is a word of the language, so it is no name."),
     ])?;
     said.say_words("Choose another name.")
 }
 
 /// What stands at the place and what stands before it.
-fn beside(scene: Scene<'_>, said: &mut Said) -> Result<(), AllocError> {
+fn beside(scene: SourceContext<'_>, said: &mut Message) -> Result<(), AllocError> {
     let tokens = scene.tokens;
     if tokens.kind(scene.at).is_none() {
         said.say_words("The file ends in the middle of a class or a statement.")?;
@@ -147,17 +151,17 @@ fn beside(scene: Scene<'_>, said: &mut Said) -> Result<(), AllocError> {
     }
     if scene.at == 0 {
         said.say(&[
-            Part::Words("A file is a list of classes, and "),
-            Part::Code(scene.name()),
-            Part::Words(" begins none."),
+            MessagePart::Words("A file is a list of classes, and "),
+            MessagePart::Code(scene.name()),
+            MessagePart::Words(" begins none."),
         ])?;
         return said.say_words("Write `class NAME is .. end;` around what stands here.");
     }
     said.say(&[
-        Part::Code(scene.name()),
-        Part::Words(" can't stand behind "),
-        Part::Code(tokens.bytes_back(scene.at, 1)),
-        Part::Words(" here."),
+        MessagePart::Code(scene.name()),
+        MessagePart::Words(" can't stand behind "),
+        MessagePart::Code(tokens.bytes_back(scene.at, 1)),
+        MessagePart::Words(" here."),
     ])?;
     said.say_words("The mistake is at this token or before it.")
 }

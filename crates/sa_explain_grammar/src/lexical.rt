@@ -1,7 +1,7 @@
 //! Bytes that are no tokens: E01 to E05.
 
-use sa_explain_scene::{Part, Said, Span};
-use sa_tree::{Refusal, Rule};
+use sa_ast::{Refusal, Rule};
+use sa_diagnostics::{Message, MessagePart, Span};
 use std::alloc::AllocError;
 
 /// How many bytes of a text are written out in a remedy.
@@ -12,9 +12,9 @@ const MOST_SHOWN: usize = 30;
 /// # Errors
 ///
 /// `AllocError` where memory runs out.
-pub fn about_bytes(text: &[u8], refusal: Refusal, said: &mut Said) -> Result<(), AllocError> {
+pub fn about_bytes(text: &[u8], refusal: Refusal, said: &mut Message) -> Result<(), AllocError> {
     let at = refusal.pos.at as usize;
-    let behind = if at <= text.len() { &text[at..] } else { text };
+    let following = if at <= text.len() { &text[at..] } else { text };
     match refusal.rule {
         Rule::BadByte if is_behind_type(text, at) => sign(
             said,
@@ -22,10 +22,10 @@ pub fn about_bytes(text: &[u8], refusal: Refusal, said: &mut Said) -> Result<(),
             "A `!` stands directly behind the name of an iter, and behind no type.",
             "Write `once` before the arguments that are evaluated once, and nothing at the others.",
         ),
-        Rule::BadByte => about_byte(behind, said),
-        Rule::LiteralNotEnded => about_literal(behind, said),
-        Rule::NumberTooLarge | Rule::NumberForm => about_number(behind, said),
-        Rule::UnknownEscape => about_escape(behind, said),
+        Rule::BadByte => about_byte(following, said),
+        Rule::LiteralNotEnded => about_literal(following, said),
+        Rule::NumberTooLarge | Rule::NumberForm => about_number(following, said),
+        Rule::UnknownEscape => about_escape(following, said),
         _ => Ok(()),
     }
 }
@@ -36,15 +36,15 @@ fn is_behind_type(text: &[u8], at: usize) -> bool {
         Some(before) => text.get(before),
         None => None,
     };
-    let behind = text.get(at.saturating_add(1));
+    let following = text.get(at.saturating_add(1));
     text.get(at) == Some(&b'!')
-        && !matches!(behind, Some(byte) if *byte == b'=')
+        && !matches!(following, Some(byte) if *byte == b'=')
         && matches!(before, Some(byte) if byte.is_ascii_uppercase() || *byte == b'}')
 }
 
 /// Signs of other languages and of word processors.
-fn about_byte(behind: &[u8], said: &mut Said) -> Result<(), AllocError> {
-    match behind {
+fn about_byte(following: &[u8], said: &mut Message) -> Result<(), AllocError> {
+    match following {
         [b'&', b'&', ..] => sign(said, 2, "`&&` is the word `and` here.", "Write `and`."),
         [b'&', ..] => sign(
             said,
@@ -112,14 +112,14 @@ fn about_byte(behind: &[u8], said: &mut Said) -> Result<(), AllocError> {
 }
 
 /// Marks so many bytes, and says this.
-fn sign(said: &mut Said, bytes: usize, wrong: &str, remedy: &str) -> Result<(), AllocError> {
+fn sign(said: &mut Message, bytes: usize, wrong: &str, remedy: &str) -> Result<(), AllocError> {
     mark_bytes(said, bytes);
     said.say_words(wrong)?;
     said.say_words(remedy)
 }
 
 /// Marks so many bytes from the place on.
-fn mark_bytes(said: &mut Said, bytes: usize) {
+fn mark_bytes(said: &mut Message, bytes: usize) {
     said.mark = Span {
         start: said.mark.start,
         end: said.mark.start.saturating_add(bytes),
@@ -127,8 +127,8 @@ fn mark_bytes(said: &mut Said, bytes: usize) {
 }
 
 /// A literal that doesn't end, or a character of no or several bytes.
-fn about_literal(behind: &[u8], said: &mut Said) -> Result<(), AllocError> {
-    let (b'\'', inside) = (first(behind), rest(behind)) else {
+fn about_literal(following: &[u8], said: &mut Message) -> Result<(), AllocError> {
+    let (b'\'', inside) = (first(following), rest(following)) else {
         return Ok(());
     };
     let Some(len) = quoted_len(inside) else {
@@ -151,9 +151,9 @@ fn about_literal(behind: &[u8], said: &mut Said) -> Result<(), AllocError> {
         return said.say_words("Write it between double quotes.");
     }
     said.say(&[
-        Part::Words("Write `\""),
-        Part::Plain(inside),
-        Part::Words("\"`."),
+        MessagePart::Words("Write `\""),
+        MessagePart::Plain(inside),
+        MessagePart::Words("\"`."),
     ])
 }
 
@@ -185,18 +185,18 @@ fn quoted_len(bytes: &[u8]) -> Option<usize> {
 }
 
 /// A number that is too large or of another form.
-fn about_number(behind: &[u8], said: &mut Said) -> Result<(), AllocError> {
-    let len = number_len(behind);
+fn about_number(following: &[u8], said: &mut Message) -> Result<(), AllocError> {
+    let len = number_len(following);
     mark_bytes(said, len);
-    let spelled = if len <= behind.len() {
-        &behind[..len]
+    let spelled = if len <= following.len() {
+        &following[..len]
     } else {
-        behind
+        following
     };
     if has_fraction(spelled) {
         said.say(&[
-            Part::Code(spelled),
-            Part::Words(" has a fraction, and there are whole numbers alone: no FLT."),
+            MessagePart::Code(spelled),
+            MessagePart::Words(" has a fraction, and there are whole numbers alone: no FLT."),
         ])?;
         return said.say_words(
             "Count the parts, as tenths in an INT, or take FIXED of the library: `sather lib fixed > fixed.sa`.",
@@ -219,27 +219,27 @@ fn has_fraction(spelled: &[u8]) -> bool {
         .iter()
         .take_while(|byte| byte.is_ascii_digit() || **byte == b'_')
         .count();
-    let behind = spelled.get(digits.saturating_add(1));
-    spelled.get(digits) == Some(&b'.') && matches!(behind, Some(byte) if byte.is_ascii_digit())
+    let following = spelled.get(digits.saturating_add(1));
+    spelled.get(digits) == Some(&b'.') && matches!(following, Some(byte) if byte.is_ascii_digit())
 }
 
-fn about_escape(behind: &[u8], said: &mut Said) -> Result<(), AllocError> {
-    if let [b'\\', byte, ..] = behind
+fn about_escape(following: &[u8], said: &mut Message) -> Result<(), AllocError> {
+    if let [b'\\', byte, ..] = following
         && byte.is_ascii_graphic()
         && !byte.is_ascii_digit()
     {
         mark_bytes(said, 2);
         let escape = [b'\\', *byte];
         said.say(&[
-            Part::Code(escape.as_slice()),
-            Part::Words(
+            MessagePart::Code(escape.as_slice()),
+            MessagePart::Words(
                 " is no escape: there are \\a \\b \\f \\n \\r \\t \\v \\\\ \\' \\\", and one to three octal digits.",
             ),
         ])?;
         return said.say(&[
-            Part::Words("A backslash itself is written twice: `\\"),
-            Part::Plain(escape.as_slice()),
-            Part::Words("`."),
+            MessagePart::Words("A backslash itself is written twice: `\\"),
+            MessagePart::Plain(escape.as_slice()),
+            MessagePart::Words("`."),
         ]);
     }
     Ok(())

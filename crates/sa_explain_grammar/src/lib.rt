@@ -1,8 +1,8 @@
 //! What is said of bytes that are no tokens, and of tokens that can't stand where they do.
 #![tactic(auto)]
 
-mod around;
 mod elsewhere;
+mod enclosing;
 mod grammar;
 mod lexical;
 mod slips;

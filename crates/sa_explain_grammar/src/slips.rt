@@ -1,7 +1,7 @@
 //! Forms of older Sather, and slips that one form of this language suggests for another one.
 
-use sa_explain_scene::{Part, Said, Scene, Tokens, ends_value};
-use sa_lex::{Sign, TokenKind, Word};
+use sa_diagnostics::{Message, MessagePart, SourceContext, TokenView, ends_value};
+use sa_lexer::{Sign, TokenKind, Word};
 use std::alloc::AllocError;
 
 /// What is wrong, and what to write.
@@ -16,7 +16,7 @@ fn found(wrong: &'static str, remedy: &'static str) -> Option<Meant> {
 }
 
 /// Says which form is meant at the token, where it and those beside it show one.
-pub(crate) fn slip(scene: Scene<'_>, said: &mut Said) -> Result<(), AllocError> {
+pub(crate) fn slip(scene: SourceContext<'_>, said: &mut Message) -> Result<(), AllocError> {
     let tokens = scene.tokens;
     if let Some(slip) = slip_at(scene) {
         said.say_words(slip.wrong)?;
@@ -37,7 +37,7 @@ pub(crate) fn slip(scene: Scene<'_>, said: &mut Said) -> Result<(), AllocError> 
 }
 
 /// The slip at the token, of those that are told by no name.
-fn slip_at(scene: Scene<'_>) -> Option<Meant> {
+fn slip_at(scene: SourceContext<'_>) -> Option<Meant> {
     let tokens = scene.tokens;
     let at = scene.at;
     if let Some(slip) = of_class(tokens, at) {
@@ -56,7 +56,7 @@ fn slip_at(scene: Scene<'_>) -> Option<Meant> {
 }
 
 /// The words of classes in Sather 1.0, and a header without its `is`.
-fn of_class(tokens: Tokens<'_>, at: usize) -> Option<Meant> {
+fn of_class(tokens: TokenView<'_>, at: usize) -> Option<Meant> {
     let next = at.saturating_add(1);
     if tokens.spells(at, "value") && tokens.is_word(next, Word::Class) {
         return found(
@@ -100,7 +100,7 @@ fn begins_feature(kind: Option<&TokenKind>) -> bool {
 }
 
 /// A mode before each of several names, and `once` in a routine; braces without a type.
-fn of_header(scene: Scene<'_>) -> Option<Meant> {
+fn of_header(scene: SourceContext<'_>) -> Option<Meant> {
     let tokens = scene.tokens;
     let at = scene.at;
     let is_header = scene.feature_name().is_none();
@@ -148,7 +148,7 @@ fn is_mode(kind: Option<&TokenKind>) -> bool {
 }
 
 /// What a statement begins or ends with.
-fn of_statement(tokens: Tokens<'_>, at: usize) -> Option<Meant> {
+fn of_statement(tokens: TokenView<'_>, at: usize) -> Option<Meant> {
     let goes_on = tokens.is_sign(at, Sign::Dot)
         || tokens.is_sign(at, Sign::LeftParen)
         || tokens.is_sign(at, Sign::LeftBracket);
@@ -182,7 +182,7 @@ fn of_statement(tokens: Tokens<'_>, at: usize) -> Option<Meant> {
 }
 
 /// `#OUT x` and `OUT + x`
-fn of_output(tokens: Tokens<'_>, at: usize) -> Option<Meant> {
+fn of_output(tokens: TokenView<'_>, at: usize) -> Option<Meant> {
     if tokens.bytes_back(at, 1) != b"OUT".as_slice() {
         return None;
     }
@@ -206,7 +206,7 @@ fn of_output(tokens: Tokens<'_>, at: usize) -> Option<Meant> {
 }
 
 /// An array literal in another one or without elements, `||`, and a bound call whose receiver is left open.
-fn of_expression(tokens: Tokens<'_>, at: usize) -> Option<Meant> {
+fn of_expression(tokens: TokenView<'_>, at: usize) -> Option<Meant> {
     let next = at.saturating_add(1);
     if tokens.is_sign(at, Sign::Bar) && tokens.is_sign_back(at, 1, Sign::Bar) {
         return of_bars(tokens.kind(next));
@@ -230,8 +230,8 @@ fn of_expression(tokens: Tokens<'_>, at: usize) -> Option<Meant> {
 }
 
 /// Two `|` where an array literal begins, by what stands behind them.
-fn of_bars(behind: Option<&TokenKind>) -> Option<Meant> {
-    let is_empty = match behind {
+fn of_bars(following: Option<&TokenKind>) -> Option<Meant> {
+    let is_empty = match following {
         Some(TokenKind::Sign(sign)) => matches!(
             sign,
             Sign::Semicolon | Sign::Comma | Sign::RightParen | Sign::RightBracket
@@ -253,7 +253,7 @@ fn of_bars(behind: Option<&TokenKind>) -> Option<Meant> {
 }
 
 /// The name in capitals at a token, or before it, that is declared or assigned like that of a variable.
-fn named_like_class(tokens: Tokens<'_>, at: usize) -> Option<usize> {
+fn named_like_class(tokens: TokenView<'_>, at: usize) -> Option<usize> {
     let is_held = matches!(
         tokens.kind_back(at, 1),
         Some(TokenKind::Word(Word::Attr | Word::Shared | Word::Const))
@@ -275,10 +275,10 @@ fn named_like_class(tokens: Tokens<'_>, at: usize) -> Option<usize> {
     (declares && begins && tokens.is_class_name(name)).then_some(name)
 }
 
-fn class_for_variable(name: &[u8], said: &mut Said) -> Result<(), AllocError> {
+fn class_for_variable(name: &[u8], said: &mut Message) -> Result<(), AllocError> {
     said.say(&[
-        Part::Code(name),
-        Part::Words(
+        MessagePart::Code(name),
+        MessagePart::Words(
             " is in capitals, as the names of classes are; that of a variable or a routine has a small letter.",
         ),
     ])?;
@@ -286,15 +286,15 @@ fn class_for_variable(name: &[u8], said: &mut Said) -> Result<(), AllocError> {
 }
 
 /// `new C` and `C::new`
-fn object_of(class: &[u8], said: &mut Said) -> Result<(), AllocError> {
+fn object_of(class: &[u8], said: &mut Message) -> Result<(), AllocError> {
     said.say_words(
         "`new` makes an object of the class that it stands in, and names none; elsewhere `#` calls the routine `create` of a class.",
     )?;
     said.say(&[
-        Part::Words("Write `new` in "),
-        Part::Plain(class),
-        Part::Words(" itself, and `#"),
-        Part::Plain(class),
-        Part::Words("` elsewhere."),
+        MessagePart::Words("Write `new` in "),
+        MessagePart::Plain(class),
+        MessagePart::Words(" itself, and `#"),
+        MessagePart::Plain(class),
+        MessagePart::Words("` elsewhere."),
     ])
 }

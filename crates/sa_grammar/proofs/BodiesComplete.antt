@@ -1,29 +1,29 @@
 -- The forms of statements that hold others are complete, and so are those of lists of statements.
 use Rattle.std.proofs.Common.{◌≡◌, ℕ, suc, ◌+◌, ◌<◌, List, [], ◌∷◌, ◌++◌, length, refl, sym, subst, append_assoc, arith, length-append, Option, unwrap_or}
-use Rattle.sa_lex.specs.declared.sign.Sign.TheVariants as sign
-use Rattle.sa_lex.specs.declared.word.Word.{Word}
-use Rattle.sa_lex.specs.declared.word.Word.TheVariants as word
-use Rattle.sa_tree.specs.declared.expr.Expr.{Expr}
-use Rattle.sa_tree.specs.declared.stmt.Arm.{Arm}
-use Rattle.sa_tree.specs.declared.stmt.CaseArm.{CaseArm}
-use Rattle.sa_tree.specs.declared.stmt.TypeArm.{TypeArm}
-use Rattle.sa_tree.specs.declared.stmt.Stmt.{Stmt}
-use Rattle.sa_tree.specs.declared.stmt.Stmt.TheVariants as tree
-use Rattle.sa_parse_expr.specs.declared.grammar.Scope.TheVariants.{Plain}
-use Rattle.sa_parse_expr.specs.Lexemes.{Lexeme, IsWord, name_of}
-use Rattle.sa_parse_expr.specs.Expressions.{IsExpr}
-use Rattle.sa_parse_expr.specs.Arounds.{outside, around_of}
-use Rattle.sa_parse_expr.specs.Readings.{Read}
-use Rattle.sa_parse_expr.specs.Tests.{is_word, is_sign, is_word_kind, is_sign_kind}
-use Rattle.sa_parse_expr.specs.Forms.{Form, Reader, Nested, Tree, nest, give, follow, separated, make, until_word, opens, type, expr, stmts}
-use Rattle.sa_parse_expr.specs.StatementForms.{value_form, optional_value_form, name_form, simple_form, body_form, ending_form, arm_form, case_arm_form, branch_form}
-use Rattle.sa_parse_expr.specs.StatementForms.{case_arms_form, branches_form, stmt_form, optional_stmt_form, stmts_form}
-use Rattle.sa_parse_expr.proofs.Tested.{sign_stands, word_met, word_stands, other_word}
-use Rattle.sa_parse_expr.proofs.Shifts.{Meets}
-use Rattle.sa_parse.specs.Names as names
-use Rattle.sa_parse.specs.Names.{IsLower}
-use Rattle.sa_parse.specs.Statements as stmt
-use Rattle.sa_parse.specs.Statements.{IsValue, IsLeave, IsBody, IsStmts, IsOptionalStmt, IsStmt, IsArm, IsEnding, IsElse, IsCaseArms, IsCaseArm, IsBranches, IsBranch}
+use Rattle.sa_lexer.specs.declared.sign.Sign.TheVariants as sign
+use Rattle.sa_lexer.specs.declared.word.Word.{Word}
+use Rattle.sa_lexer.specs.declared.word.Word.TheVariants as word
+use Rattle.sa_ast.specs.declared.expr.Expr.{Expr}
+use Rattle.sa_ast.specs.declared.stmt.BranchArm.{BranchArm}
+use Rattle.sa_ast.specs.declared.stmt.CaseArm.{CaseArm}
+use Rattle.sa_ast.specs.declared.stmt.TypeArm.{TypeArm}
+use Rattle.sa_ast.specs.declared.stmt.Stmt.{Stmt}
+use Rattle.sa_ast.specs.declared.stmt.Stmt.TheVariants as tree
+use Rattle.sa_parser_expr.specs.declared.grammar.ConditionScope.TheVariants.{Plain}
+use Rattle.sa_parser_expr.specs.Lexemes.{Lexeme, IsWord, name_of}
+use Rattle.sa_parser_expr.specs.Expressions.{IsExpr}
+use Rattle.sa_parser_expr.specs.Enclosures.{outside, enclosure_of}
+use Rattle.sa_parser_expr.specs.Readings.{Read}
+use Rattle.sa_parser_expr.specs.Tests.{is_word, is_sign, is_word_kind, is_sign_kind}
+use Rattle.sa_parser_expr.specs.Forms.{Form, Reader, Nested, Ast, nest, give, follow, separated, make, until_word, opens, type, expr, stmts}
+use Rattle.sa_parser_expr.specs.StatementForms.{value_form, optional_value_form, name_form, simple_form, body_form, ending_form, arm_form, case_arm_form, branch_form}
+use Rattle.sa_parser_expr.specs.StatementForms.{case_arms_form, branches_form, stmt_form, optional_stmt_form, stmts_form}
+use Rattle.sa_parser_expr.proofs.Tested.{sign_stands, word_met, word_stands, other_word}
+use Rattle.sa_parser_expr.proofs.Shifts.{Meets}
+use Rattle.sa_parser.specs.Names as names
+use Rattle.sa_parser.specs.Names.{IsLower}
+use Rattle.sa_parser.specs.Statements as stmt
+use Rattle.sa_parser.specs.Statements.{IsValue, IsLeave, IsBody, IsStmts, IsOptionalStmt, IsStmt, IsArm, IsEnding, IsElse, IsCaseArms, IsCaseArm, IsBranches, IsBranch}
 use Rattle.sa_grammar.proofs.Complete.{Reads, reads-give, reads-met, reads-other, reads-first, reads-second, reads-follow, reads-make, reads-as, reads-joined, reads-kind, reads-list, reads-separated}
 use Rattle.sa_grammar.proofs.ExpressionStarts.{begins_expr, meets_front, word_shut}
 use Rattle.sa_grammar.proofs.ExpressionEnds.{Ends, after_expr, ends_left, ends_right, kind_ends}
@@ -34,8 +34,8 @@ use Rattle.sa_grammar.proofs.StatementsComplete.{values_separated, arms_listed, 
 use Rattle.sa_grammar.proofs.StatementsComplete.{simple_starts, stmt_starts, then_ends, then_ends_type, ending_ends, case_arms_end, branches_end}
 use Rattle.sa_grammar.proofs.StatementsComplete.{value_read, optional_value_read, name_read, simple_read}
 
-module _ (level : ℕ) (nested : (n : Nested) → Reader (Tree n))
-    (inside : (n : Nested) (ls : List Lexeme) (t : Tree n) (rest : List Lexeme) → Spells n ls t → length ls < level → EndsOf n rest → nested n (ls ++ rest) ≡ Read t rest) where
+module _ (level : ℕ) (nested : (n : Nested) → Reader (Ast n))
+    (inside : (n : Nested) (ls : List Lexeme) (t : Ast n) (rest : List Lexeme) → Spells n ls t → length ls < level → EndsOf n rest → nested n (ls ++ rest) ≡ Read t rest) where
   body_read : {w : Word} {ls : List Lexeme} {all : List Stmt} (rest : List Lexeme) → IsBody w ls all → length ls < suc level → Ends after_stmts rest
       → Reads level nested (body_form w) (ls ++ rest) all rest
   unfolding body_form
@@ -55,7 +55,7 @@ module _ (level : ℕ) (nested : (n : Nested) → Reader (Tree n))
       (reads-met (word_met is) (reads-make (nest_read level nested inside stmts ls all (closed ∷ rest) h (omega arith) (kind_ends after_stmts closed rest closes.kind refl))))
       closes
 
-  arm_read : (ls : List Lexeme) (arm : Arm) (rest : List Lexeme) → IsArm ls arm → length ls < level → Ends after_stmts rest → Reads level nested arm_form (ls ++ rest) arm rest
+  arm_read : (ls : List Lexeme) (arm : BranchArm) (rest : List Lexeme) → IsArm ls arm → length ls < level → Ends after_stmts rest → Reads level nested arm_form (ls ++ rest) arm rest
   unfolding arm_form
   arm_read _ _ rest (stmt.arm {ls = ls} {ms = ms} {test = test} h k) small ends =
       let sum : length (ls ++ ms) ≡ length ls + length ms = length-append ls ms in
@@ -68,7 +68,7 @@ module _ (level : ℕ) (nested : (n : Nested) → Reader (Tree n))
       let sum : length (ls ++ ms) ≡ length ls + length ms = length-append ls ms in
       reads-joined ls ms rest
       (reads-follow
-      (reads-list level nested (IsExpr Plain (around_of outside)) (Ends after_expr) value_form (nest_read level nested inside (expr Plain outside)) comma_ends
+      (reads-list level nested (IsExpr Plain (enclosure_of outside)) (Ends after_expr) value_form (nest_read level nested inside (expr Plain outside)) comma_ends
       (ms ++ rest) (values_separated h) (omega arith) (then_ends after_expr refl rest k) (then_ends (is_sign_kind sign.Comma) refl rest k))
       (reads-make (body_read rest k (omega arith) ends)))
 

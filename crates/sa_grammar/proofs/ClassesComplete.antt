@@ -1,35 +1,35 @@
 -- The forms of classes and files are complete.
 use Rattle.std.specs.List.{flat_map}
 use Rattle.std.proofs.Common.{◌≡◌, ℕ, suc, ◌+◌, ◌<◌, ◌≤◌, Bool, true, false, ◌||◌, List, [], ◌∷◌, ◌++◌, length, refl, sym, ap, subst, append_assoc, append-nil, arith, length-append}
-use Rattle.sa_lex.specs.declared.token.TokenKind.{TokenKind}
-use Rattle.sa_lex.specs.declared.token.TokenKind.TheVariants as token
-use Rattle.sa_lex.specs.declared.sign.Sign.{Sign}
-use Rattle.sa_lex.specs.declared.sign.Sign.TheVariants as sign
-use Rattle.sa_lex.specs.declared.word.Word.TheVariants as word
-use Rattle.sa_tree.specs.declared.ty.Ty.{Ty}
-use Rattle.sa_tree.specs.declared.class.Kind.{Kind}
-use Rattle.sa_tree.specs.declared.class.Param.{Param}
-use Rattle.sa_tree.specs.declared.class.Feature.{Feature}
-use Rattle.sa_tree.specs.declared.contract.Condition.{Condition}
-use Rattle.sa_parse_expr.specs.Lexemes.{Lexeme, IsWord, IsSign}
-use Rattle.sa_parse_expr.specs.Types.{IsType}
-use Rattle.sa_parse_expr.specs.Readings.{Read}
-use Rattle.sa_parse_expr.specs.Tests.{is_sign, is_sign_kind, is_word_kind, is_class_name_kind, is_abstract_name_kind, is_feature_kind}
-use Rattle.sa_parse_expr.specs.Forms.{Reader, Nested, Tree, make, nest, opens, type}
-use Rattle.sa_parse_expr.specs.StatementForms.{joined}
-use Rattle.sa_parse_expr.proofs.Tested.{sign_met, sign_stands, word_met, feature_met, other_sign, other_word}
-use Rattle.sa_parse_expr.proofs.Shifts.{Shut, Meets}
-use Rattle.sa_parse.specs.declared.file.FileKind.{FileKind}
-use Rattle.sa_parse.specs.Signatures as sigs
-use Rattle.sa_parse.specs.Signatures.{IsSig}
-use Rattle.sa_parse.specs.Features.{Enclosing, IsMember}
-use Rattle.sa_parse.specs.Classes as classes
-use Rattle.sa_parse.specs.Classes.{IsParam, IsParamList, IsParams, IsTypesAfter, IsAbstractHead, IsConcreteHead, IsOptionalSignature, IsSignatures, IsMembers}
-use Rattle.sa_parse.specs.Classes.{Written, IsWholeClass, IsOptionalClass, IsFile, invariants_of}
-use Rattle.sa_parse.specs.SignatureForms.{sig_form}
-use Rattle.sa_parse.specs.FeatureForms.{member_form}
-use Rattle.sa_parse.specs.ClassForms.{param_form, params_form, types_after_form, abstract_head_form, concrete_head_form, optional_sig_form, signatures_form, optional_member_form}
-use Rattle.sa_parse.specs.ClassForms.{is_empty, none_yet, members_form, abstract_form, concrete_form, class_form, optional_class_form, file_form}
+use Rattle.sa_lexer.specs.declared.token.TokenKind.{TokenKind}
+use Rattle.sa_lexer.specs.declared.token.TokenKind.TheVariants as token
+use Rattle.sa_lexer.specs.declared.sign.Sign.{Sign}
+use Rattle.sa_lexer.specs.declared.sign.Sign.TheVariants as sign
+use Rattle.sa_lexer.specs.declared.word.Word.TheVariants as word
+use Rattle.sa_ast.specs.declared.ty.Ty.{Ty}
+use Rattle.sa_ast.specs.declared.class.ClassKind.{ClassKind}
+use Rattle.sa_ast.specs.declared.class.TypeParam.{TypeParam}
+use Rattle.sa_ast.specs.declared.class.Feature.{Feature}
+use Rattle.sa_ast.specs.declared.contract.Condition.{Condition}
+use Rattle.sa_parser_expr.specs.Lexemes.{Lexeme, IsWord, IsSign}
+use Rattle.sa_parser_expr.specs.Types.{IsType}
+use Rattle.sa_parser_expr.specs.Readings.{Read}
+use Rattle.sa_parser_expr.specs.Tests.{is_sign, is_sign_kind, is_word_kind, is_class_name_kind, is_abstract_name_kind, is_feature_kind}
+use Rattle.sa_parser_expr.specs.Forms.{Reader, Nested, Ast, make, nest, opens, type}
+use Rattle.sa_parser_expr.specs.StatementForms.{joined}
+use Rattle.sa_parser_expr.proofs.Tested.{sign_met, sign_stands, word_met, feature_met, other_sign, other_word}
+use Rattle.sa_parser_expr.proofs.Shifts.{Shut, Meets}
+use Rattle.sa_parser.specs.declared.file.FileKind.{FileKind}
+use Rattle.sa_parser.specs.Signatures as sigs
+use Rattle.sa_parser.specs.Signatures.{IsSig}
+use Rattle.sa_parser.specs.Features.{Enclosing, IsMember}
+use Rattle.sa_parser.specs.Classes as classes
+use Rattle.sa_parser.specs.Classes.{IsParam, IsParamList, IsParams, IsTypesAfter, IsAbstractHead, IsConcreteHead, IsOptionalSignature, IsSignatures, IsMembers}
+use Rattle.sa_parser.specs.Classes.{Written, IsWholeClass, IsOptionalClass, IsFile, invariants_of}
+use Rattle.sa_parser.specs.SignatureForms.{sig_form}
+use Rattle.sa_parser.specs.FeatureForms.{member_form}
+use Rattle.sa_parser.specs.ClassForms.{param_form, params_form, types_after_form, abstract_head_form, concrete_head_form, optional_sig_form, signatures_form, optional_member_form}
+use Rattle.sa_parser.specs.ClassForms.{is_empty, none_yet, members_form, abstract_form, concrete_form, class_form, optional_class_form, file_form}
 use Rattle.sa_grammar.proofs.Parts.{Signature, Declaration, Head}
 use Rattle.sa_grammar.proofs.Sound.{Separated, Listed, last, more}
 use Rattle.sa_grammar.proofs.Complete.{Reads, reads-give, reads-met, reads-other, reads-first, reads-second, reads-follow, reads-make, reads-as, reads-joined, reads-until, reads-list}
@@ -47,7 +47,7 @@ use Rattle.sa_grammar.proofs.ClassesSound.{count, count_append, count_one, IsFew
 
 -- ---- lists
 
-params_separated : {ls : List Lexeme} {all : List Param} → IsParamList ls all → Listed IsParam ls all
+params_separated : {ls : List Lexeme} {all : List TypeParam} → IsParamList ls all → Listed IsParam ls all
 params_separated (classes.IsParamList.last one) = last one
 params_separated (classes.IsParamList.more one is others) = more one (sign_met is) (params_separated others)
 
@@ -126,18 +126,18 @@ fits_next (c ∷ all) n few = omega arith
 next_fits : (all others : List Declaration) → count (all ++ others) ≤ 1 → count others ≤ most (none_yet all)
 next_fits all others few = let sum = count_append all others in fits_next (flat_map invariants_of all) (count others) (omega arith)
 
-module _ (level : ℕ) (nested : (n : Nested) → Reader (Tree n))
-    (inside : (n : Nested) (ls : List Lexeme) (t : Tree n) (rest : List Lexeme) → Spells n ls t → length ls < level → EndsOf n rest → nested n (ls ++ rest) ≡ Read t rest) where
+module _ (level : ℕ) (nested : (n : Nested) → Reader (Ast n))
+    (inside : (n : Nested) (ls : List Lexeme) (t : Ast n) (rest : List Lexeme) → Spells n ls t → length ls < level → EndsOf n rest → nested n (ls ++ rest) ≡ Read t rest) where
   -- ---- heads
 
-  param_read : (ls : List Lexeme) (p : Param) (rest : List Lexeme) → IsParam ls p → length ls < level → Ends after_param rest → Reads level nested param_form (ls ++ rest) p rest
+  param_read : (ls : List Lexeme) (p : TypeParam) (rest : List Lexeme) → IsParam ls p → length ls < level → Ends after_param rest → Reads level nested param_form (ls ++ rest) p rest
   unfolding param_form
   param_read _ _ rest (classes.free e) small ends =
       reads-met (ap is_class_name_kind e) (reads-other (ends_left (is_sign_kind sign.Less) goes_on_type rest ends) reads-give)
   param_read _ _ rest (classes.bounded {ls = ls} {t = t} e is one) small ends =
       reads-met (ap is_class_name_kind e) (reads-met (sign_met is) (reads-make (nest_read level nested inside type ls t rest one (omega arith) (param_ends_type rest ends))))
 
-  params_read : {ls : List Lexeme} {all : List Param} (rest : List Lexeme) → IsParams ls all → length ls < level → Shut (is_sign sign.LeftBrace) rest → Reads level nested params_form (ls ++ rest) all rest
+  params_read : {ls : List Lexeme} {all : List TypeParam} (rest : List Lexeme) → IsParams ls all → length ls < level → Shut (is_sign sign.LeftBrace) rest → Reads level nested params_form (ls ++ rest) all rest
   unfolding params_form
   params_read rest classes.IsParams.absent small shut = reads-other shut reads-give
   params_read rest (classes.IsParams.given {closing = closed} {ls = ls} opens among closes) small shut =
@@ -163,17 +163,17 @@ module _ (level : ℕ) (nested : (n : Nested) → Reader (Tree n))
   abstract_head_read w rest (classes.abstract_head {ps = ps} e h (classes.edges {bs = bs} {us = us} k j)) small is =
       let sum : length (ps ++ (bs ++ us)) ≡ length ps + length (bs ++ us) = length-append ps (bs ++ us) in
       let part : length (bs ++ us) ≡ length bs + length us = length-append bs us in
-      let behind = λ (after : TokenKind → Bool) (none : after (token.Sign sign.Greater) ≡ false) (also : after (token.Word word.Is) ≡ false).
+      let following = λ (after : TokenKind → Bool) (none : after (token.Sign sign.Greater) ≡ false) (also : after (token.Word word.Is) ≡ false).
       types_after_end after none (w ∷ rest) j (kind_ends after w rest is.kind also) in
       reads-met (ap is_abstract_name_kind e)
       (reads-joined ps (bs ++ us) (w ∷ rest)
       (reads-follow (params_read ((bs ++ us) ++ w ∷ rest) h (omega arith)
       (subst (Shut (is_sign sign.LeftBrace)) (sym (append_assoc bs us (w ∷ rest)))
-      (types_after_end (is_sign_kind sign.LeftBrace) refl (us ++ w ∷ rest) k (behind (is_sign_kind sign.LeftBrace) refl refl))))
+      (types_after_end (is_sign_kind sign.LeftBrace) refl (us ++ w ∷ rest) k (following (is_sign_kind sign.LeftBrace) refl refl))))
       (reads-joined bs us (w ∷ rest)
       (reads-follow
-      (types_after_read sign.Less (us ++ w ∷ rest) k (omega arith) (behind (is_sign_kind sign.Less) refl refl)
-      (record { brace = behind (is_sign_kind sign.LeftBrace) refl refl; colon = behind (is_sign_kind sign.Colon) refl refl }) (behind (is_sign_kind sign.Comma) refl refl))
+      (types_after_read sign.Less (us ++ w ∷ rest) k (omega arith) (following (is_sign_kind sign.Less) refl refl)
+      (record { brace = following (is_sign_kind sign.LeftBrace) refl refl; colon = following (is_sign_kind sign.Colon) refl refl }) (following (is_sign_kind sign.Comma) refl refl))
       (reads-make
       (types_after_read sign.Greater (w ∷ rest) j (omega arith) (kind_ends (is_sign_kind sign.Greater) w rest is.kind refl) (is_ends_type w rest is)
       (kind_ends (is_sign_kind sign.Comma) w rest is.kind refl)))))))
@@ -281,7 +281,7 @@ module _ (level : ℕ) (nested : (n : Nested) → Reader (Tree n))
 
   -- ---- classes
 
-  concrete_read : (file_kind : FileKind) (kind : Kind) {ls : List Lexeme} {c : Written} (rest : List Lexeme) → IsConcrete file_kind kind ls c → length ls < suc level
+  concrete_read : (file_kind : FileKind) (kind : ClassKind) {ls : List Lexeme} {c : Written} (rest : List Lexeme) → IsConcrete file_kind kind ls c → length ls < suc level
       → Reads level nested (concrete_form file_kind kind) (ls ++ rest) c rest
   unfolding concrete_form
   concrete_read file_kind kind rest (concrete {is = is} {closing = closed} {hs = hs} {ls = ls} {head = head} w h is_is k closes) small =

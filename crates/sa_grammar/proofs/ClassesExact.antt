@@ -1,10 +1,10 @@
 -- Classes are read exactly, and files.
 use Rattle.std.proofs.Common.{ℕ, ◌<◌, List, [], ◌++◌, length, arith}
-use Rattle.sa_parse_expr.specs.Lexemes.{Lexeme}
-use Rattle.sa_parse_expr.specs.Grammar.{nested_to}
-use Rattle.sa_parse.specs.declared.file.FileKind.{FileKind}
-use Rattle.sa_parse.specs.Classes.{Written, IsWholeClass, IsFile}
-use Rattle.sa_parse.specs.ClassForms.{class_form, file_form}
+use Rattle.sa_parser_expr.specs.Lexemes.{Lexeme}
+use Rattle.sa_parser_expr.specs.Grammar.{nested_to}
+use Rattle.sa_parser.specs.declared.file.FileKind.{FileKind}
+use Rattle.sa_parser.specs.Classes.{Written, IsWholeClass, IsFile}
+use Rattle.sa_parser.specs.ClassForms.{class_form, file_form}
 use Rattle.sa_grammar.specs.Law.{OneClass, ClassesAreRead, OneFile, FilesAreRead}
 use Rattle.sa_grammar.proofs.Sound.{IsSound}
 use Rattle.sa_grammar.proofs.Complete.{Reads}

@@ -1,32 +1,32 @@
 -- The forms of classes and files are sound.
 use Rattle.std.specs.List.{flat_map}
 use Rattle.std.proofs.Common.{◌≡◌, ℕ, ◌+◌, ◌≤◌, Bool, true, List, [], ◌∷◌, ◌++◌, length, refl, sym, ap, subst, append_assoc, append-nil, arith, length-append, None}
-use Rattle.sa_lex.specs.declared.token.TokenKind.TheVariants as token
-use Rattle.sa_lex.specs.declared.sign.Sign.{Sign}
-use Rattle.sa_lex.specs.declared.sign.Sign.TheVariants as sign
-use Rattle.sa_lex.specs.declared.word.Word.TheVariants as word
-use Rattle.sa_tree.specs.declared.class.Access.TheVariants.{Public}
-use Rattle.sa_tree.specs.declared.class.Kind.{Kind}
-use Rattle.sa_tree.specs.declared.class.Kind.TheVariants.{Reference, Immutable, Abstract, Partial}
-use Rattle.sa_tree.specs.declared.class.Part.TheVariants as part
-use Rattle.sa_tree.specs.declared.class.Param.{Param}
-use Rattle.sa_tree.specs.declared.class.Feature.{Feature}
-use Rattle.sa_tree.specs.declared.contract.Condition.{Condition}
-use Rattle.sa_parse_expr.specs.Lexemes.{Lexeme, IsWord, IsSign, name_of}
-use Rattle.sa_parse_expr.specs.Tests.{is_sign}
-use Rattle.sa_parse_expr.specs.Forms.{Reader, Nested, Tree, make, type}
-use Rattle.sa_parse_expr.specs.StatementForms.{joined}
-use Rattle.sa_parse_expr.proofs.Tested.{sign_stands, word_stands, class_name_stands, abstract_name_stands, lexeme, a_word}
-use Rattle.sa_parse_expr.proofs.Shorter.{opened}
-use Rattle.sa_parse.specs.declared.file.FileKind.{FileKind}
-use Rattle.sa_parse.specs.Features.{Enclosing, feature_of}
-use Rattle.sa_parse.specs.Classes as classes
-use Rattle.sa_parse.specs.Classes.{IsParam, IsParamList, IsParams, IsTypesAfter, IsAbstractHead, IsConcreteHead, IsOptionalSignature, IsSignatures, IsMembers}
-use Rattle.sa_parse.specs.Classes.{Written, IsWholeClass, IsOptionalClass, IsFile, invariants_of}
-use Rattle.sa_parse.specs.SignatureForms.{sig_form}
-use Rattle.sa_parse.specs.FeatureForms.{member_form}
-use Rattle.sa_parse.specs.ClassForms.{param_form, params_form, types_after_form, abstract_head_form, concrete_head_form, optional_sig_form, signatures_form, optional_member_form}
-use Rattle.sa_parse.specs.ClassForms.{is_empty, none_yet, members_form, abstract_form, concrete_form, class_form, optional_class_form, file_form}
+use Rattle.sa_lexer.specs.declared.token.TokenKind.TheVariants as token
+use Rattle.sa_lexer.specs.declared.sign.Sign.{Sign}
+use Rattle.sa_lexer.specs.declared.sign.Sign.TheVariants as sign
+use Rattle.sa_lexer.specs.declared.word.Word.TheVariants as word
+use Rattle.sa_ast.specs.declared.class.Access.TheVariants.{Public}
+use Rattle.sa_ast.specs.declared.class.ClassKind.{ClassKind}
+use Rattle.sa_ast.specs.declared.class.ClassKind.TheVariants.{Reference, Immutable, Abstract, Partial}
+use Rattle.sa_ast.specs.declared.class.FeatureBody.TheVariants as part
+use Rattle.sa_ast.specs.declared.class.TypeParam.{TypeParam}
+use Rattle.sa_ast.specs.declared.class.Feature.{Feature}
+use Rattle.sa_ast.specs.declared.contract.Condition.{Condition}
+use Rattle.sa_parser_expr.specs.Lexemes.{Lexeme, IsWord, IsSign, name_of}
+use Rattle.sa_parser_expr.specs.Tests.{is_sign}
+use Rattle.sa_parser_expr.specs.Forms.{Reader, Nested, Ast, make, type}
+use Rattle.sa_parser_expr.specs.StatementForms.{joined}
+use Rattle.sa_parser_expr.proofs.Tested.{sign_stands, word_stands, class_name_stands, abstract_name_stands, lexeme, a_word}
+use Rattle.sa_parser_expr.proofs.Shorter.{opened}
+use Rattle.sa_parser.specs.declared.file.FileKind.{FileKind}
+use Rattle.sa_parser.specs.Features.{Enclosing, feature_of}
+use Rattle.sa_parser.specs.Classes as classes
+use Rattle.sa_parser.specs.Classes.{IsParam, IsParamList, IsParams, IsTypesAfter, IsAbstractHead, IsConcreteHead, IsOptionalSignature, IsSignatures, IsMembers}
+use Rattle.sa_parser.specs.Classes.{Written, IsWholeClass, IsOptionalClass, IsFile, invariants_of}
+use Rattle.sa_parser.specs.SignatureForms.{sig_form}
+use Rattle.sa_parser.specs.FeatureForms.{member_form}
+use Rattle.sa_parser.specs.ClassForms.{param_form, params_form, types_after_form, abstract_head_form, concrete_head_form, optional_sig_form, signatures_form, optional_member_form}
+use Rattle.sa_parser.specs.ClassForms.{is_empty, none_yet, members_form, abstract_form, concrete_form, class_form, optional_class_form, file_form}
 use Rattle.sa_grammar.proofs.Parts.{Declaration, Head}
 use Rattle.sa_grammar.proofs.Sound.{After, Sound, sound_shorter, Separated, Listed, last, more}
 use Rattle.sa_grammar.proofs.Sound.{IsSound, sound-give, sound-refuse, sound-shift, sound-either, sound-follow, sound-separated, sound-list, sound-repeat, sound-make, sound-until, sound-until_word, sound-up}
@@ -96,12 +96,12 @@ few_first h = record { are = members_of h; few = count_of h }
 -- ---- classes
 
 -- a class that isn't abstract, behind the word of its kind
-pub data IsConcrete (file_kind : FileKind) (kind : Kind) : List Lexeme → Written → Type 0 where
+pub data IsConcrete (file_kind : FileKind) (kind : ClassKind) : List Lexeme → Written → Type 0 where
   concrete : {w is closing : Lexeme} {hs ls : List Lexeme} {head : Head} {members : List Declaration} → IsWord word.Class w → IsConcreteHead hs head → IsWord word.Is is
       → IsFew (record { name = head.name.name; kind = kind; file_kind = file_kind }) ls members → IsWord word.End closing
       → IsConcrete file_kind kind (w ∷ ((hs ++ is ∷ ls) ++ closing ∷ [])) (record { kind = kind; head = head; signatures = []; members = members })
 
-concrete_at : {file_kind : FileKind} {kind : Kind} {w is closing : Lexeme} {hs ls : List Lexeme} {head : Head} {members : List Declaration} → IsWord word.Class w → IsConcreteHead hs head
+concrete_at : {file_kind : FileKind} {kind : ClassKind} {w is closing : Lexeme} {hs ls : List Lexeme} {head : Head} {members : List Declaration} → IsWord word.Class w → IsConcreteHead hs head
     → IsWord word.Is is → IsFew (record { name = head.name.name; kind = kind; file_kind = file_kind }) ls members → IsWord word.End closing
     → IsConcrete file_kind kind (w ∷ (hs ++ is ∷ (ls ++ closing ∷ []))) (record { kind = kind; head = head; signatures = []; members = members })
 concrete_at {file_kind = file_kind} {kind = kind} {w = w} {is = is} {closing = closed} {hs = hs} {ls = ls} {head = head} {members = members} w_is h is_is k closes =
@@ -126,7 +126,7 @@ partial_class v (concrete w h is k closes) = classes.concrete_class (classes.par
 
 -- ---- lists
 
-params_listed : {ls : List Lexeme} {all : List Param} → Listed IsParam ls all → IsParamList ls all
+params_listed : {ls : List Lexeme} {all : List TypeParam} → Listed IsParam ls all → IsParamList ls all
 params_listed (last one) = classes.IsParamList.last one
 params_listed (more {l = l} one parting rest) = classes.IsParamList.more one (sign_stands sign.Comma l parting) (params_listed rest)
 
@@ -160,7 +160,7 @@ no_members = record { are = classes.nothing; few = omega arith }
 no_signatures : IsSignatures [] []
 no_signatures = classes.IsSignatures.last classes.IsOptionalSignature.absent
 
-module _ (level : ℕ) (nested : (n : Nested) → Reader (Tree n)) (inside : (n : Nested) → Sound (Spells n) (nested n)) where
+module _ (level : ℕ) (nested : (n : Nested) → Reader (Ast n)) (inside : (n : Nested) → Sound (Spells n) (nested n)) where
   -- ---- heads
 
   sound_param : IsSound level nested IsParam param_form
@@ -248,7 +248,7 @@ module _ (level : ℕ) (nested : (n : Nested) → Reader (Tree n)) (inside : (n 
         spelled = abstract_at a_is (a_word word.Class) an_abstract_head (a_word word.Is) no_signatures (a_word word.End);
       }))
 
-  sound_concrete : (file_kind : FileKind) (kind : Kind) → IsSound level nested (IsConcrete file_kind kind) (concrete_form file_kind kind)
+  sound_concrete : (file_kind : FileKind) (kind : ClassKind) → IsSound level nested (IsConcrete file_kind kind) (concrete_form file_kind kind)
   unfolding concrete_form
   sound_concrete file_kind kind =
       sound-shift (λ w w_is.

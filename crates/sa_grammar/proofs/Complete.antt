@@ -1,25 +1,25 @@
 -- Complete forms: what lexemes spell is read of them where the next lexeme doesn't go on with it. A lemma for each way to make forms.
 use Rattle.std.proofs.Common.{◌≡◌, ℕ, zero, suc, ◌+◌, ◌<◌, ◌≤◌, Bool, true, List, [], ◌∷◌, ◌++◌, length, refl, sym, ap, ◌∙◌, append_assoc, arith, length-append}
-use Rattle.sa_lex.specs.declared.token.TokenKind.{TokenKind}
-use Rattle.sa_lex.specs.declared.sign.Sign.{Sign}
-use Rattle.sa_lex.specs.declared.sign.Sign.TheVariants as sign
-use Rattle.sa_parse_expr.specs.Lexemes.{Lexeme, IsSign}
-use Rattle.sa_parse_expr.specs.Readings.{Spelling, Read}
-use Rattle.sa_parse_expr.specs.Tests.{is_sign}
-use Rattle.sa_parse_expr.specs.Forms.{Form, give, shift, either, follow, separated, repeat, placed, list, make, until, opens}
-use Rattle.sa_parse_expr.specs.Forms.{Reader, behind, with_read, place_of, listed, repeated, run, Nested, Tree}
-use Rattle.sa_parse_expr.proofs.BehindNames.{with_kind}
-use Rattle.sa_parse_expr.proofs.Tested.{sign_met, sign_stands}
-use Rattle.sa_parse_expr.proofs.Shorter.{behind_one}
-use Rattle.sa_parse_expr.proofs.Shifts.{Shut, Meets, shifted_met, shifted_shut, chosen_met, chosen_shut}
+use Rattle.sa_lexer.specs.declared.token.TokenKind.{TokenKind}
+use Rattle.sa_lexer.specs.declared.sign.Sign.{Sign}
+use Rattle.sa_lexer.specs.declared.sign.Sign.TheVariants as sign
+use Rattle.sa_parser_expr.specs.Lexemes.{Lexeme, IsSign}
+use Rattle.sa_parser_expr.specs.Readings.{Spelling, Read}
+use Rattle.sa_parser_expr.specs.Tests.{is_sign}
+use Rattle.sa_parser_expr.specs.Forms.{Form, give, shift, either, follow, separated, repeat, placed, list, make, until, opens}
+use Rattle.sa_parser_expr.specs.Forms.{Reader, following, with_read, pos_of, listed, repeated, run, Nested, Ast}
+use Rattle.sa_parser_expr.proofs.BehindNames.{with_kind}
+use Rattle.sa_parser_expr.proofs.Tested.{sign_met, sign_stands}
+use Rattle.sa_parser_expr.proofs.Shorter.{behind_one}
+use Rattle.sa_parser_expr.proofs.Shifts.{Shut, Meets, shifted_met, shifted_shut, chosen_met, chosen_shut}
 use Rattle.sa_grammar.proofs.Sound.{Separated, last, more, Listed}
 
-module _ (level : ℕ) (nested : (n : Nested) → Reader (Tree n)) where
+module _ (level : ℕ) (nested : (n : Nested) → Reader (Ast n)) where
   -- a form reads a tree of these lexemes, and leaves those
   pub record Reads {A : Type 0} (form : Form A) (ls : List Lexeme) (a : A) (rest : List Lexeme) : Type 0 where
     pub is : run level nested form ls ≡ Read a rest
 
-module _ {level : ℕ} {nested : (n : Nested) → Reader (Tree n)} where
+module _ {level : ℕ} {nested : (n : Nested) → Reader (Ast n)} where
   pub reads-give : {A : Type 0} {a : A} {rest : List Lexeme} → Reads level nested (give a) rest a rest
   reads-give = record { is = refl }
 
@@ -37,7 +37,7 @@ module _ {level : ℕ} {nested : (n : Nested) → Reader (Tree n)} where
 
   pub reads-follow : {A B : Type 0} {first : Form A} {next : A → Form B} {ls mid rest : List Lexeme} {a : A} {b : B}
       → Reads level nested first ls a mid → Reads level nested (next a) mid b rest → Reads level nested (follow first next) ls b rest
-  reads-follow {next = next} r s = record { is = ap (behind (λ a. run level nested (next a))) r.is ∙ s.is }
+  reads-follow {next = next} r s = record { is = ap (following (λ a. run level nested (next a))) r.is ∙ s.is }
 
   pub reads-make : {A B : Type 0} {form : Form A} {f : A → B} {ls rest : List Lexeme} {a : A}
       → Reads level nested form ls a rest → Reads level nested (make f form) ls (f a) rest
@@ -56,8 +56,8 @@ module _ {level : ℕ} {nested : (n : Nested) → Reader (Tree n)} where
   }
 
   pub reads-placed : {A : Type 0} {form : Form A} {ls rest : List Lexeme} {a : A}
-      → Reads level nested form ls a rest → Reads level nested (placed form) ls (place_of ls, a) rest
-  reads-placed {ls = ls} r = record { is = ap (behind (λ a more. Read (place_of ls, a) more)) r.is }
+      → Reads level nested form ls a rest → Reads level nested (placed form) ls (pos_of ls, a) rest
+  reads-placed {ls = ls} r = record { is = ap (following (λ a more. Read (pos_of ls, a) more)) r.is }
 
   pub reads-as : {A : Type 0} {form : Form A} {ls rest : List Lexeme} {a b : A} → a ≡ b → Reads level nested form ls a rest → Reads level nested form ls b rest
   reads-as {rest = rest} e r = record { is = r.is ∙ ap (λ tree. Read tree rest) e }
@@ -82,7 +82,7 @@ module _ {level : ℕ} {nested : (n : Nested) → Reader (Tree n)} where
   reads-until {rest = rest} {l = l} ls r closes = reads-joined ls (l ∷ []) rest (reads-follow r (reads-met (sign_met closes) reads-give))
 
 -- lists of fewer than so many lexemes
-module _ (level : ℕ) (nested : (n : Nested) → Reader (Tree n)) {A : Type 0} (test : Lexeme → Bool) (P : Spelling A) (Ends : List Lexeme → Type 0) (item : Form A)
+module _ (level : ℕ) (nested : (n : Nested) → Reader (Ast n)) {A : Type 0} (test : Lexeme → Bool) (P : Spelling A) (Ends : List Lexeme → Type 0) (item : Form A)
     (most : ℕ) (fits : most ≤ suc level)
     (one_read : (ls : List Lexeme) (a : A) (rest : List Lexeme) → P ls a → length ls < most → Ends rest → Reads level nested item (ls ++ rest) a rest)
     (parting_ends : (l : Lexeme) (rest : List Lexeme) → test l ≡ true → Ends (l ∷ rest)) where
@@ -90,12 +90,12 @@ module _ (level : ℕ) (nested : (n : Nested) → Reader (Tree n)) {A : Type 0} 
       → Ends rest → Shut test rest → listed fuel test (run level nested item) (ls ++ rest) ≡ Read all rest
   all_listed zero rest s small few ends shut = absurd (omega arith)
   all_listed (suc fuel) rest (last {ls = ls} {a = a} one) small few ends shut =
-      ap (behind (behind_one fuel test (run level nested item))) (one_read ls a rest one small ends).is
+      ap (following (behind_one fuel test (run level nested item))) (one_read ls a rest one small ends).is
       ∙ shifted_shut test (λ _ ms. with_read (λ others. a ∷ others) (listed fuel test (run level nested item) ms)) (λ ms. Read (a ∷ []) ms) rest shut
   all_listed (suc fuel) rest (more {ls = ls} {ms = ms} {l = l} {a = a} one parting others) small few ends shut =
       let sum : length (ls ++ l ∷ ms) ≡ length ls + suc (length ms) = length-append ls (l ∷ ms) in
-      ap (λ xs. behind (behind_one fuel test (run level nested item)) (run level nested item xs)) (append_assoc ls (l ∷ ms) rest)
-      ∙ ap (behind (behind_one fuel test (run level nested item))) (one_read ls a (l ∷ (ms ++ rest)) one (omega arith) (parting_ends l (ms ++ rest) parting)).is
+      ap (λ xs. following (behind_one fuel test (run level nested item)) (run level nested item xs)) (append_assoc ls (l ∷ ms) rest)
+      ∙ ap (following (behind_one fuel test (run level nested item))) (one_read ls a (l ∷ (ms ++ rest)) one (omega arith) (parting_ends l (ms ++ rest) parting)).is
       ∙ shifted_met test (λ _ ms. with_read (λ others. a ∷ others) (listed fuel test (run level nested item) ms)) (λ ms. Read (a ∷ []) ms) l (ms ++ rest) parting
       ∙ ap (with_read (λ more. a ∷ more)) (all_listed fuel rest others (omega arith) (omega arith) ends shut)
 
@@ -103,7 +103,7 @@ module _ (level : ℕ) (nested : (n : Nested) → Reader (Tree n)) {A : Type 0} 
       → Ends rest → Shut test rest → Reads level nested (separated test item) (ls ++ rest) all rest
   reads-separated rest s small ends shut = record { is = all_listed (suc level) rest s small (omega arith) ends shut }
 
-module _ (level : ℕ) (nested : (n : Nested) → Reader (Tree n)) {A : Type 0} (P : Spelling A) (Ends : List Lexeme → Type 0) (item : Form A)
+module _ (level : ℕ) (nested : (n : Nested) → Reader (Ast n)) {A : Type 0} (P : Spelling A) (Ends : List Lexeme → Type 0) (item : Form A)
     (one_read : (ls : List Lexeme) (a : A) (rest : List Lexeme) → P ls a → length ls < level → Ends rest → Reads level nested item (ls ++ rest) a rest)
     (comma_ends : (l : Lexeme) (rest : List Lexeme) → IsSign sign.Comma l → Ends (l ∷ rest)) where
   pub reads-list : {ls : List Lexeme} {all : List A} (rest : List Lexeme) → Listed P ls all → length ls < level
@@ -113,7 +113,7 @@ module _ (level : ℕ) (nested : (n : Nested) → Reader (Tree n)) {A : Type 0} 
 
 -- ---- as long as a lexeme meets a test
 
-module _ (level : ℕ) (nested : (n : Nested) → Reader (Tree n)) {A : Type 0} (Ends : List Lexeme → Type 0)
+module _ (level : ℕ) (nested : (n : Nested) → Reader (Ast n)) {A : Type 0} (Ends : List Lexeme → Type 0)
     (first : Form A) (test : Lexeme → Bool) (step : A → Lexeme → Form A) where
   -- the first form and some turns read a tree of these lexemes, where the rest doesn't go on with the last turn; and others may follow
   pub record Gathers (ls : List Lexeme) (a : A) : Type 0 where
@@ -126,7 +126,7 @@ module _ (level : ℕ) (nested : (n : Nested) → Reader (Tree n)) {A : Type 0} 
   gathers-first ls a r = record {
     fuel = suc level;
     enough = omega arith;
-    is = λ rest ends. ap (behind (λ tree. run level nested (repeat test step tree))) (r rest ends).is;
+    is = λ rest ends. ap (following (λ tree. run level nested (repeat test step tree))) (r rest ends).is;
   }
 
   one_more : (ls : List Lexeme) (a : A) (fuel : ℕ) → suc level ≤ fuel + length ls
@@ -143,8 +143,8 @@ module _ (level : ℕ) (nested : (n : Nested) → Reader (Tree n)) {A : Type 0} 
         is = λ rest ends.
             ap (run level nested (follow first (repeat test step))) (append_assoc ls (l ∷ ms) rest)
             ∙ is (l ∷ (ms ++ rest)) (goes (ms ++ rest))
-            ∙ shifted_met test (λ l more. behind (repeated fuel test reader) (reader a l more)) (λ more. Read a more) l (ms ++ rest) met
-            ∙ ap (behind (repeated fuel test reader)) (r rest ends).is;
+            ∙ shifted_met test (λ l more. following (repeated fuel test reader) (reader a l more)) (λ more. Read a more) l (ms ++ rest) met
+            ∙ ap (following (repeated fuel test reader)) (r rest ends).is;
       }
 
   pub gathers-more : (ls : List Lexeme) (a : A) → Gathers ls a → length ls < suc level → (l : Lexeme) (ms : List Lexeme) (b : A) → test l ≡ true
@@ -156,7 +156,7 @@ module _ (level : ℕ) (nested : (n : Nested) → Reader (Tree n)) {A : Type 0} 
   all_gathered ls a zero enough small rest shut = absurd (omega arith)
   all_gathered ls a (suc fuel) enough small rest shut =
       let reader = λ (tree : A) (l : Lexeme). run level nested (step tree l) in
-      shifted_shut test (λ l more. behind (repeated fuel test reader) (reader a l more)) (λ more. Read a more) rest shut
+      shifted_shut test (λ l more. following (repeated fuel test reader) (reader a l more)) (λ more. Read a more) rest shut
 
   pub reads-gathered : (ls : List Lexeme) (a : A) (rest : List Lexeme) → Gathers ls a → length ls < suc level → Ends rest → Shut test rest
       → Reads level nested (follow first (repeat test step)) (ls ++ rest) a rest

@@ -2,33 +2,33 @@
 use Rattle.std.proofs.Common.{◌≡◌, ℕ, suc, ◌+◌, ◌<◌, Bool, true, false, ◌&&◌, bytes_eq, codes, List, [], ◌∷◌, ◌++◌, length, refl, ap, ◌∙◌, arith, length-append, Option}
 use Rattle.std.proofs.lemmas.Bool.{and_parts}
 use Rattle.std.proofs.lemmas.Slice.Eq.{bytes_eq-Decides}
-use Rattle.sa_lex.specs.declared.token.TokenKind.{TokenKind}
-use Rattle.sa_lex.specs.declared.token.TokenKind.TheVariants as token
-use Rattle.sa_lex.specs.declared.sign.Sign.TheVariants as sign
-use Rattle.sa_lex.specs.declared.word.Word.{Word}
-use Rattle.sa_lex.specs.declared.word.Word.TheVariants as word
-use Rattle.sa_tree.specs.declared.pos.Pos.{Pos}
-use Rattle.sa_tree.specs.declared.expr.Expr.{Expr}
-use Rattle.sa_tree.specs.declared.expr.Expr.TheVariants as tree
-use Rattle.sa_tree.specs.declared.contract.Condition.{Condition}
-use Rattle.sa_parse_expr.specs.declared.grammar.Scope.{Scope}
-use Rattle.sa_parse_expr.specs.declared.grammar.Scope.TheVariants.{Plain, PostClause}
-use Rattle.sa_parse_expr.specs.Lexemes.{Lexeme, IsWord}
-use Rattle.sa_parse_expr.specs.Expressions as exprs
-use Rattle.sa_parse_expr.specs.Expressions.{IsExpr}
-use Rattle.sa_parse_expr.specs.Arounds.{outside, around_of}
-use Rattle.sa_parse_expr.specs.Readings.{Read}
-use Rattle.sa_parse_expr.specs.Tests.{is_sign, is_word, is_word_kind, is_class_name, is_class_name_kind}
-use Rattle.sa_parse_expr.specs.Forms.{Form, Reader, Nested, Tree, shift, make, expr}
-use Rattle.sa_parse_expr.proofs.Tested.{sign_stands, word_stands, class_name_stands, sign_met, word_met, other_word, lexeme, a_sign, a_word}
-use Rattle.sa_parse_expr.proofs.Shifts.{Shut}
-use Rattle.sa_parse.specs.declared.file.FileKind.{FileKind}
-use Rattle.sa_parse.specs.declared.file.FileKind.TheVariants.{Prelude, Program}
-use Rattle.sa_parse.specs.Conditions as cond
-use Rattle.sa_parse.specs.Conditions.{IsCondition, IsClause, IsClauses, IsBool, IsClosing, IsInvariant}
-use Rattle.sa_parse.specs.ConditionForms.{condition_form, clause_form, clauses_form, is_bool, closing_form, holding_form}
+use Rattle.sa_lexer.specs.declared.token.TokenKind.{TokenKind}
+use Rattle.sa_lexer.specs.declared.token.TokenKind.TheVariants as token
+use Rattle.sa_lexer.specs.declared.sign.Sign.TheVariants as sign
+use Rattle.sa_lexer.specs.declared.word.Word.{Word}
+use Rattle.sa_lexer.specs.declared.word.Word.TheVariants as word
+use Rattle.sa_ast.specs.declared.pos.Pos.{Pos}
+use Rattle.sa_ast.specs.declared.expr.Expr.{Expr}
+use Rattle.sa_ast.specs.declared.expr.Expr.TheVariants as tree
+use Rattle.sa_ast.specs.declared.contract.Condition.{Condition}
+use Rattle.sa_parser_expr.specs.declared.grammar.ConditionScope.{ConditionScope}
+use Rattle.sa_parser_expr.specs.declared.grammar.ConditionScope.TheVariants.{Plain, PostClause}
+use Rattle.sa_parser_expr.specs.Lexemes.{Lexeme, IsWord}
+use Rattle.sa_parser_expr.specs.Expressions as exprs
+use Rattle.sa_parser_expr.specs.Expressions.{IsExpr}
+use Rattle.sa_parser_expr.specs.Enclosures.{outside, enclosure_of}
+use Rattle.sa_parser_expr.specs.Readings.{Read}
+use Rattle.sa_parser_expr.specs.Tests.{is_sign, is_word, is_word_kind, is_class_name, is_class_name_kind}
+use Rattle.sa_parser_expr.specs.Forms.{Form, Reader, Nested, Ast, shift, make, expr}
+use Rattle.sa_parser_expr.proofs.Tested.{sign_stands, word_stands, class_name_stands, sign_met, word_met, other_word, lexeme, a_sign, a_word}
+use Rattle.sa_parser_expr.proofs.Shifts.{Shut}
+use Rattle.sa_parser.specs.declared.file.FileKind.{FileKind}
+use Rattle.sa_parser.specs.declared.file.FileKind.TheVariants.{Prelude, Program}
+use Rattle.sa_parser.specs.Conditions as cond
+use Rattle.sa_parser.specs.Conditions.{IsCondition, IsClause, IsClauses, IsBool, IsClosing, IsInvariant}
+use Rattle.sa_parser.specs.ConditionForms.{condition_form, clause_form, clauses_form, is_bool, closing_form, holding_form}
 use Rattle.sa_grammar.proofs.Parts.{Clauses, Declaration, invariant_of}
-use Rattle.sa_grammar.proofs.Sound.{After, Sound, Placed, stands}
+use Rattle.sa_grammar.proofs.Sound.{After, Sound, Placed, occurs}
 use Rattle.sa_grammar.proofs.Sound.{IsSound, sound-give, sound-refuse, sound-shift, sound-follow, sound-placed, sound-make}
 use Rattle.sa_grammar.proofs.Complete.{Reads, reads-give, reads-met, reads-other, reads-follow, reads-make, reads-placed, reads-joined}
 use Rattle.sa_grammar.proofs.ExpressionStarts.{origin, true_lexeme, an_expr, expr_starts}
@@ -51,8 +51,8 @@ bool_met {l = l} h = ap (λ b. b && bytes_eq l.bytes (codes "BOOL")) (ap is_clas
 abbrev true_condition : Condition
 true_condition = record { test = tree.Bool true origin; pos = origin }
 
-a_condition : (scope : Scope) → IsCondition scope (true_lexeme ∷ []) true_condition
-a_condition scope = cond.condition (exprs.in_value (an_expr scope (around_of outside)))
+a_condition : (scope : ConditionScope) → IsCondition scope (true_lexeme ∷ []) true_condition
+a_condition scope = cond.condition (exprs.in_value (an_expr scope (enclosure_of outside)))
 
 abbrev bool_lexeme : Lexeme
 bool_lexeme = record { kind = token.ClassName; bytes = codes "BOOL"; pos = origin }
@@ -71,16 +71,16 @@ invariant_end = true_lexeme ∷ end_lexeme ∷ []
 
 -- ---- the forms are sound
 
-placed_condition : {scope : Scope} {ls : List Lexeme} {whole : Pos × Expr} → Placed (IsExpr scope (around_of outside)) ls whole
+placed_condition : {scope : ConditionScope} {ls : List Lexeme} {whole : Pos × Expr} → Placed (IsExpr scope (enclosure_of outside)) ls whole
     → IsCondition scope ls (record { test = whole.1; pos = whole.0 })
-placed_condition (stands h) = cond.condition (exprs.in_value h)
+placed_condition (occurs h) = cond.condition (exprs.in_value h)
 
-module _ (level : ℕ) (nested : (n : Nested) → Reader (Tree n)) (inside : (n : Nested) → Sound (Spells n) (nested n)) where
-  sound_condition : (scope : Scope) → IsSound level nested (IsCondition scope) (condition_form scope)
+module _ (level : ℕ) (nested : (n : Nested) → Reader (Ast n)) (inside : (n : Nested) → Sound (Spells n) (nested n)) where
+  sound_condition : (scope : ConditionScope) → IsSound level nested (IsCondition scope) (condition_form scope)
   unfolding condition_form
   sound_condition scope = sound-make (sound-placed (λ e h. expr_starts h) (nested_sound level nested inside (expr scope outside))) (λ ls whole h. placed_condition h)
 
-  sound_clause : (w : Word) (scope : Scope) → IsSound level nested (IsClause w scope) (clause_form w scope)
+  sound_clause : (w : Word) (scope : ConditionScope) → IsSound level nested (IsClause w scope) (clause_form w scope)
   unfolding clause_form
   sound_clause w scope =
       sound-shift (λ l is. sound-make (sound_condition scope) (λ ls holds h. cond.IsClause.given (word_stands w l is) h)) (sound-give cond.IsClause.absent)
@@ -143,15 +143,15 @@ closing_ends : {ls : List Lexeme} (rest : List Lexeme) → IsClosing ls → Ends
 closing_ends rest (cond.at_once {w = w} is) = kind_ends after_expr w rest is.kind refl
 closing_ends rest (cond.after_semicolon {semicolon = semicolon} {w = w} is k) = kind_ends after_expr semicolon (w ∷ rest) is.kind refl
 
-module _ (level : ℕ) (nested : (n : Nested) → Reader (Tree n))
-    (inside : (n : Nested) (ls : List Lexeme) (t : Tree n) (rest : List Lexeme) → Spells n ls t → length ls < level → EndsOf n rest → nested n (ls ++ rest) ≡ Read t rest) where
-  condition_read : (scope : Scope) (ls : List Lexeme) (holds : Condition) (rest : List Lexeme) → IsCondition scope ls holds → length ls < level → Ends after_expr rest
+module _ (level : ℕ) (nested : (n : Nested) → Reader (Ast n))
+    (inside : (n : Nested) (ls : List Lexeme) (t : Ast n) (rest : List Lexeme) → Spells n ls t → length ls < level → EndsOf n rest → nested n (ls ++ rest) ≡ Read t rest) where
+  condition_read : (scope : ConditionScope) (ls : List Lexeme) (holds : Condition) (rest : List Lexeme) → IsCondition scope ls holds → length ls < level → Ends after_expr rest
       → Reads level nested (condition_form scope) (ls ++ rest) holds rest
   unfolding condition_form
   condition_read scope _ _ rest (cond.condition {l = l} {ls = ls} {e = e} (exprs.in_value h)) small ends =
       reads-make (reads-placed (nest_read level nested inside (expr scope outside) (l ∷ ls) e rest h small ends))
 
-  clause_read : (v : Word) (scope : Scope) {ls : List Lexeme} {c : Option Condition} (rest : List Lexeme) → IsClause v scope ls c → length ls < level → Shut (is_word v) rest → Ends after_expr rest
+  clause_read : (v : Word) (scope : ConditionScope) {ls : List Lexeme} {c : Option Condition} (rest : List Lexeme) → IsClause v scope ls c → length ls < level → Shut (is_word v) rest → Ends after_expr rest
       → Reads level nested (clause_form v scope) (ls ++ rest) c rest
   unfolding clause_form
   clause_read v scope rest cond.IsClause.absent small shut ends = reads-other shut reads-give

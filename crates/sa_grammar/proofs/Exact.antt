@@ -1,9 +1,9 @@
 -- What is sound and complete is exact: the longest front that begins a tree is taken.
 use Rattle.std.proofs.Common.{◌≡◌, ℕ, suc, ◌+◌, ◌<◌, List, [], ◌∷◌, ◌++◌, length, sym, ap, subst, ◌∙◌, append_assoc, append-nil, arith, length-append}
 use Rattle.std.proofs.lemmas.List.{append_cancel_right}
-use Rattle.sa_parse_expr.specs.Lexemes.{Lexeme}
-use Rattle.sa_parse_expr.specs.Readings.{Spelling, IsUnique, Begins, Reading, Read, Refused, IsRead, read, refused}
-use Rattle.sa_parse_expr.specs.Forms.{Reader}
+use Rattle.sa_parser_expr.specs.Lexemes.{Lexeme}
+use Rattle.sa_parser_expr.specs.Readings.{Spelling, IsUnique, Begins, Reading, Read, Refused, IsRead, read, refused}
+use Rattle.sa_parser_expr.specs.Forms.{Reader}
 use Rattle.sa_grammar.proofs.Sound.{Agrees, ended, same, Sound, Answers, Took, Stopped}
 
 abbrev tree_or : {A : Type 0} → A → Reading A → A

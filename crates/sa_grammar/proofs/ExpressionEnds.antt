@@ -1,12 +1,12 @@
 -- What goes on with the productions of expressions, by the kind of the next lexeme.
 use Rattle.std.proofs.Common.{◌≡◌, Bool, false, ◌||◌, is_some, List, [], ◌∷◌, ap, ◌∙◌}
 use Rattle.std.proofs.lemmas.Bool.{or_parts}
-use Rattle.sa_lex.specs.declared.token.TokenKind.{TokenKind}
-use Rattle.sa_lex.specs.declared.sign.Sign.TheVariants as sign
-use Rattle.sa_lex.specs.declared.word.Word.TheVariants as word
-use Rattle.sa_parse_expr.specs.Lexemes.{Lexeme}
-use Rattle.sa_parse_expr.specs.Tests.{is_sign_kind, is_word_kind, is_class_kind, is_text_kind, logical_kind, comparing_kind, adding_kind, multiplying_kind}
-use Rattle.sa_parse_expr.proofs.Shifts.{Shut}
+use Rattle.sa_lexer.specs.declared.token.TokenKind.{TokenKind}
+use Rattle.sa_lexer.specs.declared.sign.Sign.TheVariants as sign
+use Rattle.sa_lexer.specs.declared.word.Word.TheVariants as word
+use Rattle.sa_parser_expr.specs.Lexemes.{Lexeme}
+use Rattle.sa_parser_expr.specs.Tests.{is_sign_kind, is_word_kind, is_class_kind, is_text_kind, logical_kind, comparing_kind, adding_kind, multiplying_kind}
+use Rattle.sa_parser_expr.proofs.Shifts.{Shut}
 use Rattle.sa_grammar.proofs.TypeForms.{EndsType}
 
 -- behind the `#` of a creation

@@ -1,34 +1,34 @@
 -- The forms of expressions are complete.
 use Rattle.std.proofs.Common.{◌≡◌, ℕ, zero, suc, ◌+◌, ◌<◌, true, false, List, [], ◌∷◌, ◌++◌, length, refl, ap, ◌∙◌, append_assoc, arith, length-append, Option, Some, None}
-use Rattle.sa_lex.specs.declared.token.TokenKind.TheVariants as token
-use Rattle.sa_lex.specs.declared.sign.Sign.TheVariants as sign
-use Rattle.sa_lex.specs.declared.word.Word.TheVariants as word
-use Rattle.sa_tree.specs.declared.ty.Ty.{Ty}
-use Rattle.sa_tree.specs.declared.ty.Mode.TheVariants.{In}
-use Rattle.sa_tree.specs.declared.expr.Recv.{Recv}
-use Rattle.sa_tree.specs.declared.expr.Recv.TheVariants.{Implied, OfClass}
-use Rattle.sa_tree.specs.declared.expr.Given.{Given}
-use Rattle.sa_tree.specs.declared.expr.Given.TheVariants.{Value}
-use Rattle.sa_tree.specs.declared.expr.Expr.{Expr}
-use Rattle.sa_tree.specs.declared.expr.Expr.TheVariants as tree
-use Rattle.sa_parse_expr.specs.declared.grammar.Scope.{Scope}
-use Rattle.sa_parse_expr.specs.declared.grammar.Scope.TheVariants.{Plain, PostClause}
-use Rattle.sa_parse_expr.specs.Lexemes.{Lexeme, IsSign, IsWord, class_name, abstract_name, lower_name, iter_name}
-use Rattle.sa_parse_expr.specs.Types as types
-use Rattle.sa_parse_expr.specs.Types.{IsType}
-use Rattle.sa_parse_expr.specs.Expressions as exprs
-use Rattle.sa_parse_expr.specs.Expressions.{IsTexts, IsOptionalType, IsArg, IsArgs, IsCall, IsExpr, IsExprs, IsIndex, IsParenthesised, IsFirst, IsPost}
-use Rattle.sa_parse_expr.specs.Arounds.{Around, Where, outside, in_array, around_of}
-use Rattle.sa_parse_expr.specs.Readings.{Read}
-use Rattle.sa_parse_expr.specs.Tests.{is_sign, is_word, is_sign_kind, is_text, text_of, is_text_kind}
-use Rattle.sa_parse_expr.specs.Forms.{Form, give, refuse, shift, follow, list, make, until, nest, type, expr, unary, power, post, stmts, opens}
-use Rattle.sa_parse_expr.specs.Forms.{Reader, behind, repeated, run, Nested, Tree}
-use Rattle.sa_parse_expr.specs.TypeForms.{type_form}
-use Rattle.sa_parse_expr.specs.ExpressionForms.{arg_form, args_form, named_form, call_form, places_form, inside_form, optional_form, texts_form}
-use Rattle.sa_parse_expr.specs.ExpressionForms.{items_or, result_or, class_call_form, optional_type_form, first_form}
-use Rattle.sa_parse_expr.proofs.BehindNames.{with_kind}
-use Rattle.sa_parse_expr.proofs.Tested.{sign_met, word_met, feature_met, other_sign, other_word}
-use Rattle.sa_parse_expr.proofs.Shifts.{Shut, Meets, shifted_met, shifted_shut}
+use Rattle.sa_lexer.specs.declared.token.TokenKind.TheVariants as token
+use Rattle.sa_lexer.specs.declared.sign.Sign.TheVariants as sign
+use Rattle.sa_lexer.specs.declared.word.Word.TheVariants as word
+use Rattle.sa_ast.specs.declared.ty.Ty.{Ty}
+use Rattle.sa_ast.specs.declared.ty.Mode.TheVariants.{In}
+use Rattle.sa_ast.specs.declared.expr.ExprReceiver.{ExprReceiver}
+use Rattle.sa_ast.specs.declared.expr.ExprReceiver.TheVariants.{Implied, OfClass}
+use Rattle.sa_ast.specs.declared.expr.ExprArg.{ExprArg}
+use Rattle.sa_ast.specs.declared.expr.ExprArg.TheVariants.{Value}
+use Rattle.sa_ast.specs.declared.expr.Expr.{Expr}
+use Rattle.sa_ast.specs.declared.expr.Expr.TheVariants as tree
+use Rattle.sa_parser_expr.specs.declared.grammar.ConditionScope.{ConditionScope}
+use Rattle.sa_parser_expr.specs.declared.grammar.ConditionScope.TheVariants.{Plain, PostClause}
+use Rattle.sa_parser_expr.specs.Lexemes.{Lexeme, IsSign, IsWord, class_name, abstract_name, lower_name, iter_name}
+use Rattle.sa_parser_expr.specs.Types as types
+use Rattle.sa_parser_expr.specs.Types.{IsType}
+use Rattle.sa_parser_expr.specs.Expressions as exprs
+use Rattle.sa_parser_expr.specs.Expressions.{IsTexts, IsOptionalType, IsArg, IsArgs, IsCall, IsExpr, IsExprs, IsIndex, IsParenthesised, IsFirst, IsPost}
+use Rattle.sa_parser_expr.specs.Enclosures.{Enclosure, Where, outside, in_array, enclosure_of}
+use Rattle.sa_parser_expr.specs.Readings.{Read}
+use Rattle.sa_parser_expr.specs.Tests.{is_sign, is_word, is_sign_kind, is_text, text_of, is_text_kind}
+use Rattle.sa_parser_expr.specs.Forms.{Form, give, refuse, shift, follow, list, make, until, nest, type, expr, unary, power, post, stmts, opens}
+use Rattle.sa_parser_expr.specs.Forms.{Reader, following, repeated, run, Nested, Ast}
+use Rattle.sa_parser_expr.specs.TypeForms.{type_form}
+use Rattle.sa_parser_expr.specs.ExpressionForms.{arg_form, args_form, named_form, call_form, indices_form, inside_form, optional_form, texts_form}
+use Rattle.sa_parser_expr.specs.ExpressionForms.{items_or, result_or, class_call_form, optional_type_form, first_form}
+use Rattle.sa_parser_expr.proofs.BehindNames.{with_kind}
+use Rattle.sa_parser_expr.proofs.Tested.{sign_met, word_met, feature_met, other_sign, other_word}
+use Rattle.sa_parser_expr.proofs.Shifts.{Shut, Meets, shifted_met, shifted_shut}
 use Rattle.sa_grammar.proofs.Complete.{Reads, reads-give, reads-met, reads-other, reads-first, reads-second, reads-follow, reads-make, reads-kind, reads-known}
 use Rattle.sa_grammar.proofs.Complete.{reads-joined, reads-until, reads-list}
 use Rattle.sa_grammar.proofs.TypeForms.{EndsType, sign_ends, type_read}
@@ -52,7 +52,7 @@ pub comma_ends : (l : Lexeme) (rest : List Lexeme) → IsSign sign.Comma l → E
 comma_ends l rest is = kind_ends after_expr l rest is.kind refl
 
 -- arguments, or what stands behind them, begin no type, and go on with none
-args_end_type : {s : Scope} {ls : List Lexeme} {given : List Given} (rest : List Lexeme) → IsArgs s ls given → Ends after_name rest → Ends after_type (ls ++ rest)
+args_end_type : {s : ConditionScope} {ls : List Lexeme} {given : List ExprArg} (rest : List Lexeme) → IsArgs s ls given → Ends after_name rest → Ends after_type (ls ++ rest)
 args_end_type rest exprs.no_args h = ends_right (is_sign_kind sign.LeftParen) after_type rest h
 args_end_type rest (exprs.args {opening = begun} {closing = closed} {ls = ls} entered among closes) h = kind_ends after_type begun ((ls ++ closed ∷ []) ++ rest) entered.kind refl
 
@@ -68,21 +68,21 @@ type_opens (types.iter is first second) = ap begins_type is.kind
 abbrev initial_form : Lexeme → Form Expr
 initial_form w = shift (is_sign sign.LeftParen) (λ _. make (λ e. tree.Call Implied w.bytes (Value In e ∷ []) w.pos) (inside_form Plain)) refuse
 
-abbrev bind_form : Scope → Lexeme → Form Expr
+abbrev bind_form : ConditionScope → Lexeme → Form Expr
 bind_form s w = shift (is_sign sign.LeftParen) (λ _. make (λ e. tree.Bind e w.pos) (until sign.RightParen (nest (post s outside)))) refuse
 
 type_shut : (rest : List Lexeme) → Ends begins_type rest → Shut (opens type_form) rest
 unfolding type_form
 type_shut rest h = h
 
-module _ (level : ℕ) (nested : (n : Nested) → Reader (Tree n))
-    (inside : (n : Nested) (ls : List Lexeme) (t : Tree n) (rest : List Lexeme) → Spells n ls t → length ls < level → EndsOf n rest → nested n (ls ++ rest) ≡ Read t rest) where
-  pub nest_read : (n : Nested) (ls : List Lexeme) (t : Tree n) (rest : List Lexeme) → Spells n ls t → length ls < level → EndsOf n rest → Reads level nested (nest n) (ls ++ rest) t rest
+module _ (level : ℕ) (nested : (n : Nested) → Reader (Ast n))
+    (inside : (n : Nested) (ls : List Lexeme) (t : Ast n) (rest : List Lexeme) → Spells n ls t → length ls < level → EndsOf n rest → nested n (ls ++ rest) ≡ Read t rest) where
+  pub nest_read : (n : Nested) (ls : List Lexeme) (t : Ast n) (rest : List Lexeme) → Spells n ls t → length ls < level → EndsOf n rest → Reads level nested (nest n) (ls ++ rest) t rest
   nest_read n ls t rest h small ends = record { is = inside n ls t rest h small ends }
 
   -- ---- arguments and indexes
 
-  arg_read : (s : Scope) (ls : List Lexeme) (arg : Given) (rest : List Lexeme) → IsArg s ls arg → length ls < level → Ends after_expr rest → Reads level nested (arg_form s) (ls ++ rest) arg rest
+  arg_read : (s : ConditionScope) (ls : List Lexeme) (arg : ExprArg) (rest : List Lexeme) → IsArg s ls arg → length ls < level → Ends after_expr rest → Reads level nested (arg_form s) (ls ++ rest) arg rest
   unfolding arg_form
   arg_read s ls _ rest (exprs.in_value {e = e} h) small ends =
       reads-other (sign_shut (begins_expr s) sign.Underscore refl ls rest (expr_starts h))
@@ -98,7 +98,7 @@ module _ (level : ℕ) (nested : (n : Nested) → Reader (Tree n))
   arg_read s _ _ rest (exprs.left_of_type {ls = ls} {t = t} is colon one) small ends =
       reads-met (sign_met is) (reads-met (sign_met colon) (reads-make (nest_read type ls t rest one (omega arith) (expr_ends_type rest ends))))
 
-  args_read : {s : Scope} {ls : List Lexeme} {given : List Given} (rest : List Lexeme) → IsArgs s ls given → length ls < level → Ends (is_sign_kind sign.LeftParen) rest
+  args_read : {s : ConditionScope} {ls : List Lexeme} {given : List ExprArg} (rest : List Lexeme) → IsArgs s ls given → length ls < level → Ends (is_sign_kind sign.LeftParen) rest
       → Reads level nested (args_form s) (ls ++ rest) given rest
   unfolding args_form
   args_read rest exprs.no_args small shut = reads-other shut reads-give
@@ -110,39 +110,39 @@ module _ (level : ℕ) (nested : (n : Nested) → Reader (Tree n))
       (kind_ends after_expr closed rest closes.kind refl) (other_sign sign.Comma refl closes))
       closes)
 
-  named_read : {s : Scope} (on : Recv) (f : Lexeme) {ls : List Lexeme} {given : List Given} (rest : List Lexeme) → IsArgs s ls given → length ls < level
+  named_read : {s : ConditionScope} (on : ExprReceiver) (f : Lexeme) {ls : List Lexeme} {given : List ExprArg} (rest : List Lexeme) → IsArgs s ls given → length ls < level
       → Ends (is_sign_kind sign.LeftParen) rest → Reads level nested (named_form s on f) (ls ++ rest) (tree.Call on f.bytes given f.pos) rest
   unfolding named_form
   named_read on f rest among small shut = reads-make (args_read rest among small shut)
 
-  pub call_read : {s : Scope} {on : Recv} {ls : List Lexeme} {e : Expr} (rest : List Lexeme) → IsCall s on ls e → length ls < suc level
+  pub call_read : {s : ConditionScope} {on : ExprReceiver} {ls : List Lexeme} {e : Expr} (rest : List Lexeme) → IsCall s on ls e → length ls < suc level
       → Ends (is_sign_kind sign.LeftParen) rest → Reads level nested (call_form s on) (ls ++ rest) e rest
   unfolding call_form
   call_read {on = on} rest (exprs.named {f = f} is among) small shut = reads-met (feature_met is) (named_read on f rest among (omega arith) shut)
 
-  pub places_read : {s : Scope} {ls : List Lexeme} {es : List Expr} (closed : Lexeme) (rest : List Lexeme) → IsExprs s (around_of outside) ls es → IsSign sign.RightBracket closed
-      → length (ls ++ closed ∷ []) < level → Reads level nested (places_form s) ((ls ++ closed ∷ []) ++ rest) es rest
-  unfolding places_form
+  pub places_read : {s : ConditionScope} {ls : List Lexeme} {es : List Expr} (closed : Lexeme) (rest : List Lexeme) → IsExprs s (enclosure_of outside) ls es → IsSign sign.RightBracket closed
+      → length (ls ++ closed ∷ []) < level → Reads level nested (indices_form s) ((ls ++ closed ∷ []) ++ rest) es rest
+  unfolding indices_form
   places_read {s = s} {ls = ls} closed rest among closes small =
       let sum : length (ls ++ closed ∷ []) ≡ length ls + 1 = length-append ls (closed ∷ []) in
       reads-until ls
-      (reads-list level nested (IsExpr s (around_of outside)) (Ends after_expr) (nest (expr s outside)) (nest_read (expr s outside)) comma_ends
+      (reads-list level nested (IsExpr s (enclosure_of outside)) (Ends after_expr) (nest (expr s outside)) (nest_read (expr s outside)) comma_ends
       (closed ∷ rest) (exprs_separated among) (omega arith) (kind_ends after_expr closed rest closes.kind refl) (other_sign sign.Comma refl closes))
       closes
 
-  inside_read : {s : Scope} {ls : List Lexeme} {e : Expr} (closed : Lexeme) (rest : List Lexeme) → IsExpr s (around_of outside) ls e → IsSign sign.RightParen closed
+  inside_read : {s : ConditionScope} {ls : List Lexeme} {e : Expr} (closed : Lexeme) (rest : List Lexeme) → IsExpr s (enclosure_of outside) ls e → IsSign sign.RightParen closed
       → length (ls ++ closed ∷ []) < level → Reads level nested (inside_form s) ((ls ++ closed ∷ []) ++ rest) e rest
   unfolding inside_form
   inside_read {s = s} {ls = ls} {e = e} closed rest h closes small =
       let sum : length (ls ++ closed ∷ []) ≡ length ls + 1 = length-append ls (closed ∷ []) in
       reads-until ls (nest_read (expr s outside) ls e (closed ∷ rest) h (omega arith) (kind_ends after_expr closed rest closes.kind refl)) closes
 
-  absent_read : (s : Scope) (absent : Expr) (of : Expr → Expr) (rest : List Lexeme) → Ends (is_sign_kind sign.LeftParen) rest
+  absent_read : (s : ConditionScope) (absent : Expr) (of : Expr → Expr) (rest : List Lexeme) → Ends (is_sign_kind sign.LeftParen) rest
       → Reads level nested (optional_form s absent of) rest absent rest
   unfolding optional_form
   absent_read s absent of rest shut = reads-other shut reads-give
 
-  optional_read : {s : Scope} (absent : Expr) (of : Expr → Expr) {ls : List Lexeme} {e : Expr} (rest : List Lexeme) → IsParenthesised s ls e → length ls < level
+  optional_read : {s : ConditionScope} (absent : Expr) (of : Expr → Expr) {ls : List Lexeme} {e : Expr} (rest : List Lexeme) → IsParenthesised s ls e → length ls < level
       → Reads level nested (optional_form s absent of) (ls ++ rest) (of e) rest
   unfolding optional_form
   optional_read absent of rest (exprs.in_parentheses {closing = closed} entered h closes) small =
@@ -150,7 +150,7 @@ module _ (level : ℕ) (nested : (n : Nested) → Reader (Tree n))
 
   -- ---- what an expression begins with
 
-  implied_read : {s : Scope} (x : Where) {ls : List Lexeme} {e : Expr} (rest : List Lexeme) → IsCall s Implied ls e → length ls < suc level → Ends (is_sign_kind sign.LeftParen) rest
+  implied_read : {s : ConditionScope} (x : Where) {ls : List Lexeme} {e : Expr} (rest : List Lexeme) → IsCall s Implied ls e → length ls < suc level → Ends (is_sign_kind sign.LeftParen) rest
       → Reads level nested (first_form s x) (ls ++ rest) e rest
   unfolding first_form named_form
   implied_read {s = s} x rest (exprs.named {f = f} (lower_name e) among) small shut =
@@ -165,13 +165,13 @@ module _ (level : ℕ) (nested : (n : Nested) → Reader (Tree n))
   one_turn : (fuel : ℕ) (before : List ℕ) {bytes : List ℕ} (l : Lexeme) (rest : List Lexeme) → l.kind ≡ token.Text bytes → turns (suc fuel) before (l ∷ rest) ≡ turns fuel (before ++ bytes) rest
   one_turn fuel before l rest e =
       let step = λ (bytes : List ℕ) (l : Lexeme). run level nested (give (bytes ++ text_of l)) in
-      shifted_met is_text (λ l more. behind (repeated fuel is_text step) (step before l more)) (λ more. Read before more) l rest (ap is_text_kind e)
+      shifted_met is_text (λ l more. following (repeated fuel is_text step) (step before l more)) (λ more. Read before more) l rest (ap is_text_kind e)
       ∙ ap (λ kind. turns fuel (before ++ text_of (with_kind kind l)) rest) e
 
   last_turn : (fuel : ℕ) (bytes : List ℕ) (rest : List Lexeme) → Ends is_text_kind rest → turns (suc fuel) bytes rest ≡ Read bytes rest
   last_turn fuel bytes rest shut =
       let step = λ (bytes : List ℕ) (l : Lexeme). run level nested (give (bytes ++ text_of l)) in
-      shifted_shut is_text (λ l more. behind (repeated fuel is_text step) (step bytes l more)) (λ more. Read bytes more) rest shut
+      shifted_shut is_text (λ l more. following (repeated fuel is_text step) (step bytes l more)) (λ more. Read bytes more) rest shut
 
   all_turns : (fuel : ℕ) (before : List ℕ) {ls : List Lexeme} {bytes : List ℕ} (rest : List Lexeme) → IsTexts ls bytes → length ls < fuel → Ends is_text_kind rest
       → turns fuel before (ls ++ rest) ≡ Read (before ++ bytes) rest
@@ -183,7 +183,7 @@ module _ (level : ℕ) (nested : (n : Nested) → Reader (Tree n))
       one_turn fuel before l (ls ++ rest) e ∙ all_turns fuel (before ++ bytes) rest h (omega arith) shut
       ∙ ap (λ all. Read all rest) (append_assoc before bytes others)
 
-  texts_read : {l : Lexeme} {ls : List Lexeme} {bytes : List ℕ} (s : Scope) (x : Where) (rest : List Lexeme) → IsTexts (l ∷ ls) bytes → length ls < suc level → Ends is_text_kind rest
+  texts_read : {l : Lexeme} {ls : List Lexeme} {bytes : List ℕ} (s : ConditionScope) (x : Where) (rest : List Lexeme) → IsTexts (l ∷ ls) bytes → length ls < suc level → Ends is_text_kind rest
       → Reads level nested (first_form s x) (l ∷ (ls ++ rest)) (tree.Text bytes l.pos) rest
   unfolding first_form texts_form
   texts_read {l = l} s x rest (exprs.last_text {bytes = bytes} e) small shut =
@@ -198,7 +198,7 @@ module _ (level : ℕ) (nested : (n : Nested) → Reader (Tree n))
   optional_type_read rest (exprs.of_type {ls = ls} one) small ends =
       reads-first (meets_front (opens type_form) ls rest (type_opens one)) (reads-make (type_read level nested (inside type) rest one small (ends_type rest ends)))
 
-  create_read : {s : Scope} {ls ms : List Lexeme} {of : Option Ty} {given : List Given} (hash : Lexeme) (rest : List Lexeme) → IsOptionalType ls of → IsArgs s ms given
+  create_read : {s : ConditionScope} {ls ms : List Lexeme} {of : Option Ty} {given : List ExprArg} (hash : Lexeme) (rest : List Lexeme) → IsOptionalType ls of → IsArgs s ms given
       → length (ls ++ ms) < level → Ends after_name rest
       → Reads level nested (follow optional_type_form (λ of. make (λ given. tree.Create of given hash.pos) (args_form s))) ((ls ++ ms) ++ rest) (tree.Create of given hash.pos) rest
   create_read {ls = ls} {ms = ms} hash rest one among small ends =
@@ -207,7 +207,7 @@ module _ (level : ℕ) (nested : (n : Nested) → Reader (Tree n))
       (reads-follow (optional_type_read (ms ++ rest) one (omega arith) (args_end_type rest among ends))
       (reads-make (args_read rest among (omega arith) (ends_left (is_sign_kind sign.LeftParen) after_type rest ends))))
 
-  class_call_read : {s : Scope} {ls ms : List Lexeme} {t : Ty} {e : Expr} (colons : Lexeme) (rest : List Lexeme) → IsType ls t → IsSign sign.DoubleColon colons → IsCall s (OfClass t) ms e
+  class_call_read : {s : ConditionScope} {ls ms : List Lexeme} {t : Ty} {e : Expr} (colons : Lexeme) (rest : List Lexeme) → IsType ls t → IsSign sign.DoubleColon colons → IsCall s (OfClass t) ms e
       → length (ls ++ colons ∷ ms) < suc level → Ends (is_sign_kind sign.LeftParen) rest → Reads level nested (class_call_form s) (ls ++ colons ∷ (ms ++ rest)) e rest
   unfolding class_call_form
   class_call_read {ls = ls} {ms = ms} colons rest one parting called small shut =
@@ -216,7 +216,7 @@ module _ (level : ℕ) (nested : (n : Nested) → Reader (Tree n))
       (reads-met (sign_met parting) (call_read rest called (omega arith) shut))
 
   -- what may stand in some places alone is passed over where another lexeme stands
-  passed : (s : Scope) (x : Where) {other : Form Expr} {ls : List Lexeme} {e : Expr} {rest : List Lexeme} → Shut (is_sign sign.Bar) ls → Shut (is_word word.Result) ls
+  passed : (s : ConditionScope) (x : Where) {other : Form Expr} {ls : List Lexeme} {e : Expr} {rest : List Lexeme} → Shut (is_sign sign.Bar) ls → Shut (is_word word.Result) ls
       → Shut (is_word word.Initial) ls → Reads level nested other ls e rest → Reads level nested (items_or s x (result_or s other)) ls e rest
   unfolding items_or result_or
   passed Plain in_array bar result initial r = r
@@ -225,7 +225,7 @@ module _ (level : ℕ) (nested : (n : Nested) → Reader (Tree n))
   passed PostClause outside bar result initial r = reads-other bar (reads-other result (reads-other initial r))
 
   -- where a type begins
-  at_type : (s : Scope) (x : Where) {ls : List Lexeme} {t : Ty} {e : Expr} (more : List Lexeme) {rest : List Lexeme} → IsType ls t → Reads level nested (class_call_form s) (ls ++ more) e rest
+  at_type : (s : ConditionScope) (x : Where) {ls : List Lexeme} {t : Ty} {e : Expr} (more : List Lexeme) {rest : List Lexeme} → IsType ls t → Reads level nested (class_call_form s) (ls ++ more) e rest
       → Reads level nested (first_form s x) (ls ++ more) e rest
   unfolding first_form
   at_type s x more (types.named (class_name e) among) r =
@@ -239,8 +239,8 @@ module _ (level : ℕ) (nested : (n : Nested) → Reader (Tree n))
   at_type s x more (types.iter is first second) r =
       reads-kind {other = items_or s x (result_or s (class_call_form s))} is.kind refl (passed s x refl refl refl (reads-known is.kind r))
 
-  items_read : (s : Scope) (x : Where) {ls : List Lexeme} {es : List Expr} (begun closed : Lexeme) (rest : List Lexeme) → around_of outside ≡ around_of x
-      → IsSign sign.Bar begun → IsExprs s (around_of in_array) ls es → IsSign sign.Bar closed → length (ls ++ closed ∷ []) < level
+  items_read : (s : ConditionScope) (x : Where) {ls : List Lexeme} {es : List Expr} (begun closed : Lexeme) (rest : List Lexeme) → enclosure_of outside ≡ enclosure_of x
+      → IsSign sign.Bar begun → IsExprs s (enclosure_of in_array) ls es → IsSign sign.Bar closed → length (ls ++ closed ∷ []) < level
       → Reads level nested (first_form s x) (begun ∷ ((ls ++ closed ∷ []) ++ rest)) (tree.Items es begun.pos) rest
   unfolding first_form items_or
   items_read s in_array begun closed rest e entered among closes small = absurd (cc)
@@ -248,7 +248,7 @@ module _ (level : ℕ) (nested : (n : Nested) → Reader (Tree n))
       let sum : length (ls ++ closed ∷ []) ≡ length ls + 1 = length-append ls (closed ∷ []) in
       reads-kind {other = make (λ es. tree.Items es begun.pos) (until sign.Bar (list (nest (expr s in_array))))} entered.kind refl
       (reads-make (reads-until ls
-      (reads-list level nested (IsExpr s (around_of in_array)) (Ends after_expr) (nest (expr s in_array)) (nest_read (expr s in_array)) comma_ends
+      (reads-list level nested (IsExpr s (enclosure_of in_array)) (Ends after_expr) (nest (expr s in_array)) (nest_read (expr s in_array)) comma_ends
       (closed ∷ rest) (exprs_separated among) (omega arith) (kind_ends after_expr closed rest closes.kind refl) (other_sign sign.Comma refl closes))
       closes))
 
@@ -268,14 +268,14 @@ module _ (level : ℕ) (nested : (n : Nested) → Reader (Tree n))
   initial_read outside w rest is h small = reads-kind {other = initial_form w} is.kind refl (old_read w rest h small)
   initial_read in_array w rest is h small = reads-kind {other = initial_form w} is.kind refl (old_read w rest h small)
 
-  bind_read : {s : Scope} {ls : List Lexeme} {e : Expr} (w begun closed : Lexeme) (rest : List Lexeme) → IsSign sign.LeftParen begun → IsPost s (around_of outside) ls e
+  bind_read : {s : ConditionScope} {ls : List Lexeme} {e : Expr} (w begun closed : Lexeme) (rest : List Lexeme) → IsSign sign.LeftParen begun → IsPost s (enclosure_of outside) ls e
       → IsSign sign.RightParen closed → length (ls ++ closed ∷ []) < level
       → Reads level nested (bind_form s w) (begun ∷ ((ls ++ closed ∷ []) ++ rest)) (tree.Bind e w.pos) rest
   bind_read {s = s} {ls = ls} {e = e} w begun closed rest entered h closes small =
       let sum : length (ls ++ closed ∷ []) ≡ length ls + 1 = length-append ls (closed ∷ []) in
       reads-met (sign_met entered) (reads-make (reads-until ls (nest_read (post s outside) ls e (closed ∷ rest) h (omega arith) (kind_ends after_post closed rest closes.kind refl)) closes))
 
-  pub first_read : (s : Scope) (x : Where) (y : Around) → y ≡ around_of x → {ls : List Lexeme} {e : Expr} (rest : List Lexeme) → IsFirst s y ls e → length ls < suc level → Ends after_first rest
+  pub first_read : (s : ConditionScope) (x : Where) (y : Enclosure) → y ≡ enclosure_of x → {ls : List Lexeme} {e : Expr} (rest : List Lexeme) → IsFirst s y ls e → length ls < suc level → Ends after_first rest
       → Reads level nested (first_form s x) (ls ++ rest) e rest
   unfolding first_form
   first_read s x y same rest (exprs.number {l = l} {value = value} e) small ends = reads-kind {other = give (tree.Int value l.pos)} e refl reads-give
@@ -283,7 +283,7 @@ module _ (level : ℕ) (nested : (n : Nested) → Reader (Tree n))
   first_read s x y same rest (exprs.texts h) small ends = texts_read s x rest h (omega arith) (ends_left is_text_kind after_name rest ends)
   first_read s x y same rest (exprs.true_word {w = w} is) small ends = reads-kind {other = give (tree.Bool true w.pos)} is.kind refl reads-give
   first_read s x y same rest (exprs.false_word {w = w} is) small ends = reads-kind {other = give (tree.Bool false w.pos)} is.kind refl reads-give
-  first_read s x y same rest (exprs.self_word {w = w} is) small ends = reads-kind {other = give (tree.Me w.pos)} is.kind refl reads-give
+  first_read s x y same rest (exprs.self_word {w = w} is) small ends = reads-kind {other = give (tree.SelfRef w.pos)} is.kind refl reads-give
   first_read s x y same rest (exprs.exception_word {w = w} is) small ends = reads-kind {other = give (tree.Exception w.pos)} is.kind refl reads-give
   first_read s x y same rest (exprs.parenthesised (exprs.in_parentheses {closing = closed} entered h closes)) small ends =
       reads-kind entered.kind refl (inside_read closed rest h closes (omega arith))
@@ -305,6 +305,6 @@ module _ (level : ℕ) (nested : (n : Nested) → Reader (Tree n))
   first_read s x y same rest (exprs.bind {w = w} {opening = begun} {closing = closed} is entered h closes) small ends =
       reads-kind is.kind refl (bind_read w begun closed rest entered h closes (omega arith))
   first_read s x y same rest (exprs.index_on_self {l = l} (exprs.places {closing = closed} entered among closes)) small ends =
-      reads-kind {other = make (λ places. tree.Index None places l.pos) (places_form s)} entered.kind refl (reads-make (places_read closed rest among closes (omega arith)))
+      reads-kind {other = make (λ places. tree.Index None places l.pos) (indices_form s)} entered.kind refl (reads-make (places_read closed rest among closes (omega arith)))
   first_read s x y same rest (exprs.result_word {w = w} is) small ends = result_read x w rest is
   first_read s x y same rest (exprs.initial_of {w = w} is h) small ends = initial_read x w rest is h (omega arith)

@@ -1,45 +1,45 @@
 -- The forms of features are complete.
 use Rattle.std.proofs.Common.{◌≡◌, ℕ, suc, ◌+◌, ◌<◌, ◌≤◌, Bool, true, false, ◌||◌, List, [], ◌∷◌, ◌++◌, length, refl, ap, arith, length-append, Option, Some, map}
-use Rattle.sa_lex.specs.declared.token.TokenKind.{TokenKind}
-use Rattle.sa_lex.specs.declared.token.TokenKind.TheVariants as token
-use Rattle.sa_lex.specs.declared.sign.Sign.TheVariants as sign
-use Rattle.sa_lex.specs.declared.word.Word.{Word}
-use Rattle.sa_lex.specs.declared.word.Word.TheVariants as word
-use Rattle.sa_tree.specs.declared.ty.Ty.{Ty}
-use Rattle.sa_tree.specs.declared.expr.Expr.{Expr}
-use Rattle.sa_tree.specs.declared.stmt.Local.{Local}
-use Rattle.sa_tree.specs.declared.stmt.Stmt.{Stmt}
-use Rattle.sa_tree.specs.declared.class.Access.{Access}
-use Rattle.sa_tree.specs.declared.class.Access.TheVariants.{Public, Private}
-use Rattle.sa_tree.specs.declared.class.Kind.{Kind}
-use Rattle.sa_tree.specs.declared.class.Kind.TheVariants as kinds
-use Rattle.sa_tree.specs.declared.class.Part.TheVariants as part
-use Rattle.sa_tree.specs.declared.class.Feature.{Feature}
-use Rattle.sa_tree.specs.declared.class.Change.{Change}
-use Rattle.sa_tree.specs.declared.contract.Condition.{Condition}
-use Rattle.sa_parse_expr.specs.Lexemes.{Lexeme, IsWord, IsSign, IsFeature, lower_name, iter_name}
-use Rattle.sa_parse_expr.specs.Types.{IsType}
-use Rattle.sa_parse_expr.specs.Readings.{Read}
-use Rattle.sa_parse_expr.specs.Tests.{is_sign, is_sign_kind, is_word, is_word_kind, is_feature_kind}
-use Rattle.sa_parse_expr.specs.Forms.{Form, Reader, Nested, Tree, shift, make, list, opens, type, stmts}
-use Rattle.sa_parse_expr.proofs.Tested.{sign_met, word_met, feature_met, other_sign, other_word}
-use Rattle.sa_parse_expr.proofs.Shifts.{Shut, Meets}
-use Rattle.sa_parse.specs.declared.file.FileKind.{FileKind}
-use Rattle.sa_parse.specs.declared.file.FileKind.TheVariants.{Prelude, Program}
-use Rattle.sa_parse.specs.Names as names
-use Rattle.sa_parse.specs.Names.{IsMoreNames, IsNames}
-use Rattle.sa_parse.specs.Statements as stmt
-use Rattle.sa_parse.specs.Statements.{IsAssigned}
-use Rattle.sa_parse.specs.Signatures as sigs
-use Rattle.sa_parse.specs.Signatures.{IsSig}
-use Rattle.sa_parse.specs.Conditions as cond
-use Rattle.sa_parse.specs.Conditions.{IsClauses, IsInvariant, no_clauses}
-use Rattle.sa_parse.specs.Features as features
-use Rattle.sa_parse.specs.Features.{Enclosing, IsPrivate, IsNewName, IsChange, IsChanges, IsOptionalChanges, IsSharedParts, IsDeclared, IsConstants, IsWholeBody, IsCalled, IsMember}
-use Rattle.sa_parse.specs.Features.{variable_of, feature_of}
-use Rattle.sa_parse.specs.Classes.{invariants_of}
-use Rattle.sa_parse.specs.FeatureForms.{include_of, change_to, changed_form, new_name_form, change_form, optional_changes_form, include_form, attr_form, shared_parts_form, shared_form, more_names_form}
-use Rattle.sa_parse.specs.FeatureForms.{typed_constant_form, constants_form, declared_or, whole_body_form, routine_form, stub_or, builtin_or, is_private, open_form, invariant_or, member_form}
+use Rattle.sa_lexer.specs.declared.token.TokenKind.{TokenKind}
+use Rattle.sa_lexer.specs.declared.token.TokenKind.TheVariants as token
+use Rattle.sa_lexer.specs.declared.sign.Sign.TheVariants as sign
+use Rattle.sa_lexer.specs.declared.word.Word.{Word}
+use Rattle.sa_lexer.specs.declared.word.Word.TheVariants as word
+use Rattle.sa_ast.specs.declared.ty.Ty.{Ty}
+use Rattle.sa_ast.specs.declared.expr.Expr.{Expr}
+use Rattle.sa_ast.specs.declared.stmt.Local.{Local}
+use Rattle.sa_ast.specs.declared.stmt.Stmt.{Stmt}
+use Rattle.sa_ast.specs.declared.class.Access.{Access}
+use Rattle.sa_ast.specs.declared.class.Access.TheVariants.{Public, Private}
+use Rattle.sa_ast.specs.declared.class.ClassKind.{ClassKind}
+use Rattle.sa_ast.specs.declared.class.ClassKind.TheVariants as kinds
+use Rattle.sa_ast.specs.declared.class.FeatureBody.TheVariants as part
+use Rattle.sa_ast.specs.declared.class.Feature.{Feature}
+use Rattle.sa_ast.specs.declared.class.FeatureModifier.{FeatureModifier}
+use Rattle.sa_ast.specs.declared.contract.Condition.{Condition}
+use Rattle.sa_parser_expr.specs.Lexemes.{Lexeme, IsWord, IsSign, IsFeature, lower_name, iter_name}
+use Rattle.sa_parser_expr.specs.Types.{IsType}
+use Rattle.sa_parser_expr.specs.Readings.{Read}
+use Rattle.sa_parser_expr.specs.Tests.{is_sign, is_sign_kind, is_word, is_word_kind, is_feature_kind}
+use Rattle.sa_parser_expr.specs.Forms.{Form, Reader, Nested, Ast, shift, make, list, opens, type, stmts}
+use Rattle.sa_parser_expr.proofs.Tested.{sign_met, word_met, feature_met, other_sign, other_word}
+use Rattle.sa_parser_expr.proofs.Shifts.{Shut, Meets}
+use Rattle.sa_parser.specs.declared.file.FileKind.{FileKind}
+use Rattle.sa_parser.specs.declared.file.FileKind.TheVariants.{Prelude, Program}
+use Rattle.sa_parser.specs.Names as names
+use Rattle.sa_parser.specs.Names.{IsMoreNames, IsNames}
+use Rattle.sa_parser.specs.Statements as stmt
+use Rattle.sa_parser.specs.Statements.{IsAssigned}
+use Rattle.sa_parser.specs.Signatures as sigs
+use Rattle.sa_parser.specs.Signatures.{IsSig}
+use Rattle.sa_parser.specs.Conditions as cond
+use Rattle.sa_parser.specs.Conditions.{IsClauses, IsInvariant, no_clauses}
+use Rattle.sa_parser.specs.Features as features
+use Rattle.sa_parser.specs.Features.{Enclosing, IsPrivate, IsNewName, IsChange, IsChanges, IsOptionalChanges, IsSharedParts, IsDeclared, IsConstants, IsWholeBody, IsCalled, IsMember}
+use Rattle.sa_parser.specs.Features.{variable_of, feature_of}
+use Rattle.sa_parser.specs.Classes.{invariants_of}
+use Rattle.sa_parser.specs.FeatureForms.{include_of, change_to, changed_form, new_name_form, change_form, optional_changes_form, include_form, attr_form, shared_parts_form, shared_form, more_names_form}
+use Rattle.sa_parser.specs.FeatureForms.{typed_constant_form, constants_form, declared_or, whole_body_form, routine_form, stub_or, builtin_or, is_private, open_form, invariant_or, member_form}
 use Rattle.sa_grammar.proofs.Parts.{Signature, Clauses, SharedParts, Declaration, called_of, variables_of, invariant_of}
 use Rattle.sa_grammar.proofs.Sound.{Listed, last, more}
 use Rattle.sa_grammar.proofs.Complete.{Reads, reads-give, reads-met, reads-other, reads-first, reads-second, reads-follow, reads-make, reads-joined, reads-list}
@@ -87,18 +87,18 @@ after_arrow k = is_word_kind word.Private k || after_access k
 abbrev begins_change : TokenKind → Bool
 begins_change k = is_feature_kind k || false
 
-change_starts : {ls : List Lexeme} {change : Change} → IsChange ls change → Meets (λ l. begins_change l.kind) ls
+change_starts : {ls : List Lexeme} {change : FeatureModifier} → IsChange ls change → Meets (λ l. begins_change l.kind) ls
 change_starts (features.change is to h) = ap (λ b. b || false) (feature_met is)
 
-changes_start : {ls : List Lexeme} {all : List Change} → IsChanges ls all → Meets (λ l. begins_change l.kind) ls
+changes_start : {ls : List Lexeme} {all : List FeatureModifier} → IsChanges ls all → Meets (λ l. begins_change l.kind) ls
 changes_start (features.last one) = change_starts one
 changes_start (features.more {ls = ls} {ms = ms} {comma = comma} one is others) = meets_front (λ l. begins_change l.kind) ls (comma ∷ ms) (change_starts one)
 
-changes_separated : {ls : List Lexeme} {all : List Change} → IsChanges ls all → Listed IsChange ls all
+changes_separated : {ls : List Lexeme} {all : List FeatureModifier} → IsChanges ls all → Listed IsChange ls all
 changes_separated (features.last one) = last one
 changes_separated (features.more one is others) = more one (sign_met is) (changes_separated others)
 
-changes_end_type : {ls : List Lexeme} {all : List Change} (rest : List Lexeme) → IsOptionalChanges ls all → IsClosed rest → EndsType (ls ++ rest)
+changes_end_type : {ls : List Lexeme} {all : List FeatureModifier} (rest : List Lexeme) → IsOptionalChanges ls all → IsClosed rest → EndsType (ls ++ rest)
 changes_end_type rest features.IsOptionalChanges.absent h = closed_ends_type h
 changes_end_type rest (features.IsOptionalChanges.given {ls = ls} changes) h = record {
   brace = sign_shut begins_change sign.LeftBrace refl ls rest (changes_start changes);
@@ -173,7 +173,7 @@ open_starts (constants (features.typed_constant is l colon one gets h)) = ap beg
 open_starts (constants (features.counted_constants is l h others)) = ap begins_open is.kind
 open_starts (included is one changes) = ap begins_open is.kind
 
-module _ (level : ℕ) (nested : (n : Nested) → Reader (Tree n)) where
+module _ (level : ℕ) (nested : (n : Nested) → Reader (Ast n)) where
   -- ---- other alternatives are passed by
 
   past_declared : (access : Access) {other : Form Declaration} {ls rest : List Lexeme} {m : Declaration} → Shut (is_word word.Attr) ls → Shut (is_word word.Shared) ls
@@ -181,7 +181,7 @@ module _ (level : ℕ) (nested : (n : Nested) → Reader (Tree n)) where
   unfolding declared_or
   past_declared access attr shared r = reads-other attr (reads-other shared r)
 
-  past_stub : (kind : Kind) (access : Access) {other : Form Declaration} {ls rest : List Lexeme} {m : Declaration} → Shut (is_word word.Stub) ls → Reads level nested other ls m rest
+  past_stub : (kind : ClassKind) (access : Access) {other : Form Declaration} {ls rest : List Lexeme} {m : Declaration} → Shut (is_word word.Stub) ls → Reads level nested other ls m rest
       → Reads level nested (stub_or kind access other) ls m rest
   unfolding stub_or
   past_stub kinds.Reference access shut r = r
@@ -203,28 +203,28 @@ module _ (level : ℕ) (nested : (n : Nested) → Reader (Tree n)) where
   past_invariant Prelude true shut r = r
   past_invariant Prelude false shut r = r
 
-module _ (level : ℕ) (nested : (n : Nested) → Reader (Tree n))
-    (inside : (n : Nested) (ls : List Lexeme) (t : Tree n) (rest : List Lexeme) → Spells n ls t → length ls < level → EndsOf n rest → nested n (ls ++ rest) ≡ Read t rest) where
+module _ (level : ℕ) (nested : (n : Nested) → Reader (Ast n))
+    (inside : (n : Nested) (ls : List Lexeme) (t : Ast n) (rest : List Lexeme) → Spells n ls t → length ls < level → EndsOf n rest → nested n (ls ++ rest) ≡ Read t rest) where
   -- ---- includes
 
   changed_read : (f : Lexeme) {ls : List Lexeme} {access : Access} {to : Option (List ℕ)} (rest : List Lexeme) → IsNewName ls access to → Ends after_arrow rest
       → Reads level nested (changed_form f) (ls ++ rest) (change_to f access to) rest
   unfolding changed_form new_name_form
   changed_read f rest features.IsNewName.absent ends =
-      let behind = ends_right (is_word_kind word.Private) after_access rest ends in
+      let following = ends_right (is_word_kind word.Private) after_access rest ends in
       reads-other (ends_left (is_word_kind word.Private) after_access rest ends)
-      (reads-other (ends_left (is_word_kind word.Readonly) is_feature_kind rest behind) (reads-other (ends_right (is_word_kind word.Readonly) is_feature_kind rest behind) reads-give))
+      (reads-other (ends_left (is_word_kind word.Readonly) is_feature_kind rest following) (reads-other (ends_right (is_word_kind word.Readonly) is_feature_kind rest following) reads-give))
   changed_read f rest (features.IsNewName.given (features.private features.IsPrivate.absent) is) ends =
       reads-other (feature_no_word word.Private is) (reads-other (feature_no_word word.Readonly is) (reads-met (feature_met is) reads-give))
   changed_read f rest (features.IsNewName.given (features.private (features.private_word w)) is) ends = reads-met (word_met w) (reads-met (feature_met is) reads-give)
   changed_read f rest (features.IsNewName.given (features.readonly_word w) is) ends =
       reads-other (other_word word.Private refl w) (reads-met (word_met w) (reads-met (feature_met is) reads-give))
 
-  change_read : (ls : List Lexeme) (change : Change) (rest : List Lexeme) → IsChange ls change → length ls < level → Ends after_arrow rest → Reads level nested change_form (ls ++ rest) change rest
+  change_read : (ls : List Lexeme) (change : FeatureModifier) (rest : List Lexeme) → IsChange ls change → length ls < level → Ends after_arrow rest → Reads level nested change_form (ls ++ rest) change rest
   unfolding change_form
   change_read _ _ rest (features.change {f = f} is to h) small ends = reads-met (feature_met is) (reads-met (sign_met to) (changed_read f rest h ends))
 
-  optional_changes_read : {ls : List Lexeme} {all : List Change} (rest : List Lexeme) → IsOptionalChanges ls all → length ls < level → IsClosed rest
+  optional_changes_read : {ls : List Lexeme} {all : List FeatureModifier} (rest : List Lexeme) → IsOptionalChanges ls all → length ls < level → IsClosed rest
       → Reads level nested optional_changes_form (ls ++ rest) all rest
   unfolding optional_changes_form
   optional_changes_read rest features.IsOptionalChanges.absent small closed = reads-second (changes_shut rest (closed_ends begins_change refl refl closed)) reads-give
@@ -233,7 +233,7 @@ module _ (level : ℕ) (nested : (n : Nested) → Reader (Tree n))
       (reads-list level nested IsChange (Ends after_arrow) change_form change_read (λ l tail is. kind_ends after_arrow l tail is.kind refl) rest (changes_separated h) small
       (closed_ends after_arrow refl refl closed) (closed_ends (is_sign_kind sign.Comma) refl refl closed))
 
-  include_read : (private : Bool) {ls ms : List Lexeme} {t : Ty} {changes : List Change} (rest : List Lexeme) → IsType ls t → IsOptionalChanges ms changes → length (ls ++ ms) < level
+  include_read : (private : Bool) {ls ms : List Lexeme} {t : Ty} {changes : List FeatureModifier} (rest : List Lexeme) → IsType ls t → IsOptionalChanges ms changes → length (ls ++ ms) < level
       → IsClosed rest → Reads level nested (include_form private) ((ls ++ ms) ++ rest) (include_of private t changes) rest
   unfolding include_form
   include_read private {ls = ls} {ms = ms} {t = t} rest one h small closed =
@@ -331,7 +331,7 @@ module _ (level : ℕ) (nested : (n : Nested) → Reader (Tree n))
       (reads-met (word_met is)
       (reads-until_word level nested inside xs (nest_read level nested inside stmts xs all (closed ∷ rest) j (omega arith) (kind_ends after_stmts closed rest closes.kind refl)) closes))))))
 
-  stub_read : (kind : Kind) (access : Access) (other : Form Declaration) {w : Lexeme} {ls : List Lexeme} {sig : Signature} (rest : List Lexeme) → kind ≡ kinds.Partial → IsWord word.Stub w
+  stub_read : (kind : ClassKind) (access : Access) (other : Form Declaration) {w : Lexeme} {ls : List Lexeme} {sig : Signature} (rest : List Lexeme) → kind ≡ kinds.Partial → IsWord word.Stub w
       → IsSig ls sig → length ls < level → IsClosed rest
       → Reads level nested (stub_or kind access other) (w ∷ (ls ++ rest)) (called_of (feature_of sig access part.Stub) no_clauses) rest
   unfolding stub_or

@@ -1,11 +1,11 @@
 -- Members are read exactly.
 use Rattle.std.proofs.Common.{ℕ, ◌<◌, ◌≤◌, true, List, [], ◌++◌, length, arith}
-use Rattle.sa_parse_expr.specs.Lexemes.{Lexeme}
-use Rattle.sa_parse_expr.specs.Grammar.{nested_to}
-use Rattle.sa_parse.specs.Features.{Enclosing, IsMember}
-use Rattle.sa_parse.specs.Features as features
-use Rattle.sa_parse.specs.Classes.{invariants_of}
-use Rattle.sa_parse.specs.FeatureForms.{member_form}
+use Rattle.sa_parser_expr.specs.Lexemes.{Lexeme}
+use Rattle.sa_parser_expr.specs.Grammar.{nested_to}
+use Rattle.sa_parser.specs.Features.{Enclosing, IsMember}
+use Rattle.sa_parser.specs.Features as features
+use Rattle.sa_parser.specs.Classes.{invariants_of}
+use Rattle.sa_parser.specs.FeatureForms.{member_form}
 use Rattle.sa_grammar.specs.Law.{OneMember, MembersAreRead}
 use Rattle.sa_grammar.proofs.Parts.{Declaration}
 use Rattle.sa_grammar.proofs.Sound.{IsSound}

@@ -1,43 +1,43 @@
 -- The forms of features are sound.
 use Rattle.std.proofs.Common.{◌≡◌, ℕ, ◌≤◌, Bool, true, false, List, [], ◌∷◌, ◌++◌, length, refl, subst, append_assoc, arith, Option, Some, None, map}
-use Rattle.sa_lex.specs.declared.token.TokenKind.TheVariants as token
-use Rattle.sa_lex.specs.declared.sign.Sign.TheVariants as sign
-use Rattle.sa_lex.specs.declared.word.Word.TheVariants as word
-use Rattle.sa_tree.specs.declared.ty.Ty.{Ty}
-use Rattle.sa_tree.specs.declared.ty.Ty.TheVariants as ty
-use Rattle.sa_tree.specs.declared.expr.Expr.{Expr}
-use Rattle.sa_tree.specs.declared.expr.Expr.TheVariants as exprtree
-use Rattle.sa_tree.specs.declared.stmt.Local.{Local}
-use Rattle.sa_tree.specs.declared.stmt.Stmt.{Stmt}
-use Rattle.sa_tree.specs.declared.class.Access.{Access}
-use Rattle.sa_tree.specs.declared.class.Access.TheVariants.{Public, Private, ReadOnly}
-use Rattle.sa_tree.specs.declared.class.Kind.{Kind}
-use Rattle.sa_tree.specs.declared.class.Kind.TheVariants as kinds
-use Rattle.sa_tree.specs.declared.class.Part.TheVariants as part
-use Rattle.sa_tree.specs.declared.class.Feature.{Feature}
-use Rattle.sa_tree.specs.declared.class.Change.{Change}
-use Rattle.sa_tree.specs.declared.contract.Condition.{Condition}
-use Rattle.sa_parse_expr.specs.Lexemes.{Lexeme, IsWord, IsSign, IsFeature, lower_name, name_of}
-use Rattle.sa_parse_expr.specs.Types as types
-use Rattle.sa_parse_expr.specs.Types.{IsType}
-use Rattle.sa_parse_expr.specs.Readings.{Spelling}
-use Rattle.sa_parse_expr.specs.Forms.{Form, Reader, Nested, Tree, list, type, stmts}
-use Rattle.sa_parse_expr.proofs.Tested.{sign_stands, word_stands, lower_stands, feature_stands, lexeme, a_sign, a_word}
-use Rattle.sa_parse_expr.proofs.Shorter.{opened}
-use Rattle.sa_parse.specs.declared.file.FileKind.{FileKind}
-use Rattle.sa_parse.specs.declared.file.FileKind.TheVariants.{Prelude, Program}
-use Rattle.sa_parse.specs.Names as names
-use Rattle.sa_parse.specs.Names.{IsLower, IsMoreNames, IsNames}
-use Rattle.sa_parse.specs.Statements as stmt
-use Rattle.sa_parse.specs.Statements.{IsAssigned}
-use Rattle.sa_parse.specs.Signatures.{IsSig}
-use Rattle.sa_parse.specs.Conditions.{IsClauses, IsInvariant, no_clauses}
-use Rattle.sa_parse.specs.Features as features
-use Rattle.sa_parse.specs.Features.{Enclosing, IsPrivate, IsAccess, IsChange, IsChanges, IsOptionalChanges, IsSharedParts, IsDeclared, IsConstants, IsWholeBody, IsCalled, IsMember}
-use Rattle.sa_parse.specs.Features.{variable_of, counted_from, feature_of}
-use Rattle.sa_parse.specs.Classes.{invariants_of}
-use Rattle.sa_parse.specs.FeatureForms.{include_of, change_to, new_name_form, changed_form, change_form, optional_changes_form, include_form, attr_form, shared_parts_form, shared_form, more_names_form}
-use Rattle.sa_parse.specs.FeatureForms.{typed_constant_form, constants_form, declared_or, whole_body_form, routine_form, stub_or, builtin_or, is_private, open_form, invariant_or, member_form}
+use Rattle.sa_lexer.specs.declared.token.TokenKind.TheVariants as token
+use Rattle.sa_lexer.specs.declared.sign.Sign.TheVariants as sign
+use Rattle.sa_lexer.specs.declared.word.Word.TheVariants as word
+use Rattle.sa_ast.specs.declared.ty.Ty.{Ty}
+use Rattle.sa_ast.specs.declared.ty.Ty.TheVariants as ty
+use Rattle.sa_ast.specs.declared.expr.Expr.{Expr}
+use Rattle.sa_ast.specs.declared.expr.Expr.TheVariants as exprtree
+use Rattle.sa_ast.specs.declared.stmt.Local.{Local}
+use Rattle.sa_ast.specs.declared.stmt.Stmt.{Stmt}
+use Rattle.sa_ast.specs.declared.class.Access.{Access}
+use Rattle.sa_ast.specs.declared.class.Access.TheVariants.{Public, Private, ReadOnly}
+use Rattle.sa_ast.specs.declared.class.ClassKind.{ClassKind}
+use Rattle.sa_ast.specs.declared.class.ClassKind.TheVariants as kinds
+use Rattle.sa_ast.specs.declared.class.FeatureBody.TheVariants as part
+use Rattle.sa_ast.specs.declared.class.Feature.{Feature}
+use Rattle.sa_ast.specs.declared.class.FeatureModifier.{FeatureModifier}
+use Rattle.sa_ast.specs.declared.contract.Condition.{Condition}
+use Rattle.sa_parser_expr.specs.Lexemes.{Lexeme, IsWord, IsSign, IsFeature, lower_name, name_of}
+use Rattle.sa_parser_expr.specs.Types as types
+use Rattle.sa_parser_expr.specs.Types.{IsType}
+use Rattle.sa_parser_expr.specs.Readings.{Spelling}
+use Rattle.sa_parser_expr.specs.Forms.{Form, Reader, Nested, Ast, list, type, stmts}
+use Rattle.sa_parser_expr.proofs.Tested.{sign_stands, word_stands, lower_stands, feature_stands, lexeme, a_sign, a_word}
+use Rattle.sa_parser_expr.proofs.Shorter.{opened}
+use Rattle.sa_parser.specs.declared.file.FileKind.{FileKind}
+use Rattle.sa_parser.specs.declared.file.FileKind.TheVariants.{Prelude, Program}
+use Rattle.sa_parser.specs.Names as names
+use Rattle.sa_parser.specs.Names.{IsLower, IsMoreNames, IsNames}
+use Rattle.sa_parser.specs.Statements as stmt
+use Rattle.sa_parser.specs.Statements.{IsAssigned}
+use Rattle.sa_parser.specs.Signatures.{IsSig}
+use Rattle.sa_parser.specs.Conditions.{IsClauses, IsInvariant, no_clauses}
+use Rattle.sa_parser.specs.Features as features
+use Rattle.sa_parser.specs.Features.{Enclosing, IsPrivate, IsAccess, IsChange, IsChanges, IsOptionalChanges, IsSharedParts, IsDeclared, IsConstants, IsWholeBody, IsCalled, IsMember}
+use Rattle.sa_parser.specs.Features.{variable_of, counted_from, feature_of}
+use Rattle.sa_parser.specs.Classes.{invariants_of}
+use Rattle.sa_parser.specs.FeatureForms.{include_of, change_to, new_name_form, changed_form, change_form, optional_changes_form, include_form, attr_form, shared_parts_form, shared_form, more_names_form}
+use Rattle.sa_parser.specs.FeatureForms.{typed_constant_form, constants_form, declared_or, whole_body_form, routine_form, stub_or, builtin_or, is_private, open_form, invariant_or, member_form}
 use Rattle.sa_grammar.proofs.Parts.{Signature, Clauses, Declaration, called_of, variables_of, invariant_of}
 use Rattle.sa_grammar.proofs.Sound.{After, Sound, sound_shorter, Listed, last, more}
 use Rattle.sa_grammar.proofs.Sound.{IsSound, sound-give, sound-refuse, sound-shift, sound-either, sound-follow, sound-list, sound-make, sound-until_word, sound-up}
@@ -52,7 +52,7 @@ pub data IsOpen (class : Enclosing) (access : Access) : List Lexeme → Declarat
   called : {ls : List Lexeme} {feature : Feature} {clauses : Clauses} → IsCalled class access ls feature clauses → IsOpen class access ls (called_of feature clauses)
   declared : {ls : List Lexeme} {all : List Feature} → IsDeclared access ls all → IsOpen class access ls (variables_of all)
   constants : {ls : List Lexeme} {all : List Feature} → IsConstants access ls all → IsOpen class access ls (variables_of all)
-  included : {w : Lexeme} {ls ms : List Lexeme} {t : Ty} {changes : List Change} → IsWord word.Include w → IsType ls t → IsOptionalChanges ms changes
+  included : {w : Lexeme} {ls ms : List Lexeme} {t : Ty} {changes : List FeatureModifier} → IsWord word.Include w → IsType ls t → IsOptionalChanges ms changes
       → IsOpen class access (w ∷ (ls ++ ms)) (include_of (is_private access) t changes)
 
 public_member : {class : Enclosing} {ls : List Lexeme} {m : Declaration} → IsOpen class Public ls m → IsMember class ls m
@@ -87,7 +87,7 @@ no_invariant {access = ReadOnly} (included is one changes) = refl
 
 -- ---- lists
 
-changes_listed : {ls : List Lexeme} {all : List Change} → Listed IsChange ls all → IsChanges ls all
+changes_listed : {ls : List Lexeme} {all : List FeatureModifier} → Listed IsChange ls all → IsChanges ls all
 changes_listed (last one) = features.last one
 changes_listed (more {l = l} one parting rest) = features.more one (sign_stands sign.Comma l parting) (changes_listed rest)
 
@@ -119,7 +119,7 @@ body_lexemes = lexeme (token.Word word.Is) ∷ lexeme (token.Word word.End) ∷ 
 a_body : IsWholeBody (lexeme (token.Word word.Is) ∷ lexeme (token.Word word.End) ∷ []) []
 a_body = features.whole_body (stmt.body (a_word word.Is) no_stmts) (a_word word.End)
 
-module _ (level : ℕ) (nested : (n : Nested) → Reader (Tree n)) (inside : (n : Nested) → Sound (Spells n) (nested n)) where
+module _ (level : ℕ) (nested : (n : Nested) → Reader (Ast n)) (inside : (n : Nested) → Sound (Spells n) (nested n)) where
   -- ---- includes
 
   sound_new_name : (f arrow w : Lexeme) (access : Access) → IsFeature f → IsSign sign.Arrow arrow → IsAccess (w ∷ []) access
@@ -249,7 +249,7 @@ module _ (level : ℕ) (nested : (n : Nested) → Reader (Tree n)) (inside : (n 
       sound-follow (sound_clauses level nested inside class.file_kind) (λ cs clauses k.
       sound-make sound_whole_body (λ ms body j. routine_at h k j)))
 
-  sound_stub : (kind : Kind) (access : Access) {R : Spelling Declaration} {other : Form Declaration}
+  sound_stub : (kind : ClassKind) (access : Access) {R : Spelling Declaration} {other : Form Declaration}
       → ((w : Lexeme) (ls : List Lexeme) (sig : Signature) → kind ≡ kinds.Partial → IsWord word.Stub w → IsSig ls sig → R (w ∷ ls) (called_of (feature_of sig access part.Stub) no_clauses))
       → IsSound level nested R other → IsSound level nested R (stub_or kind access other)
   unfolding stub_or

@@ -1,10 +1,10 @@
 -- A form that is sound and complete at each level is read exactly.
 use Rattle.std.proofs.Common.{ℕ, suc, ◌<◌, List, [], ◌++◌, length, arith}
-use Rattle.sa_parse_expr.specs.Lexemes.{Lexeme}
-use Rattle.sa_parse_expr.specs.Readings.{Spelling, IsUnique, IsRead}
-use Rattle.sa_parse_expr.specs.Forms.{Form, run}
-use Rattle.sa_parse_expr.specs.Grammar.{nested_to, read_as}
-use Rattle.sa_parse_expr.proofs.SameLevels.{forms_same}
+use Rattle.sa_parser_expr.specs.Lexemes.{Lexeme}
+use Rattle.sa_parser_expr.specs.Readings.{Spelling, IsUnique, IsRead}
+use Rattle.sa_parser_expr.specs.Forms.{Form, run}
+use Rattle.sa_parser_expr.specs.Grammar.{nested_to, read_as}
+use Rattle.sa_parser_expr.proofs.SameLevels.{forms_same}
 use Rattle.sa_grammar.proofs.Sound.{IsSound}
 use Rattle.sa_grammar.proofs.Complete.{Reads}
 use Rattle.sa_grammar.proofs.Exact.{unique, exact}

@@ -1,27 +1,27 @@
 -- What opens the form of members, and what doesn't.
 use Rattle.std.proofs.Common.{◌≡◌, ℕ, ◌≤◌, Bool, true, false, ◌||◌, List, [], ◌∷◌, ◌++◌, length, refl, ap, ◌∙◌, arith}
 use Rattle.std.proofs.lemmas.Bool.{or_parts, or_right}
-use Rattle.sa_lex.specs.declared.token.TokenKind.{TokenKind}
-use Rattle.sa_lex.specs.declared.word.Word.TheVariants as word
-use Rattle.sa_tree.specs.declared.class.Access.{Access}
-use Rattle.sa_tree.specs.declared.class.Access.TheVariants.{Public}
-use Rattle.sa_tree.specs.declared.class.Kind.{Kind}
-use Rattle.sa_tree.specs.declared.class.Kind.TheVariants as kinds
-use Rattle.sa_parse_expr.specs.Lexemes.{Lexeme}
-use Rattle.sa_parse_expr.specs.Tests.{is_word, is_word_kind, is_feature, is_feature_kind}
-use Rattle.sa_parse_expr.specs.Forms.{Form, opens}
-use Rattle.sa_parse_expr.proofs.Tested.{word_met, feature_met}
-use Rattle.sa_parse_expr.proofs.Shifts.{Shut, Meets}
-use Rattle.sa_parse.specs.declared.file.FileKind.{FileKind}
-use Rattle.sa_parse.specs.declared.file.FileKind.TheVariants.{Prelude, Program}
-use Rattle.sa_parse.specs.Signatures as sigs
-use Rattle.sa_parse.specs.Signatures.{IsSig}
-use Rattle.sa_parse.specs.Conditions as cond
-use Rattle.sa_parse.specs.Features as features
-use Rattle.sa_parse.specs.Features.{Enclosing, IsMember}
-use Rattle.sa_parse.specs.Classes.{invariants_of}
-use Rattle.sa_parse.specs.SignatureForms.{sig_form}
-use Rattle.sa_parse.specs.FeatureForms.{declared_or, routine_form, stub_or, builtin_or, open_form, invariant_or, member_form}
+use Rattle.sa_lexer.specs.declared.token.TokenKind.{TokenKind}
+use Rattle.sa_lexer.specs.declared.word.Word.TheVariants as word
+use Rattle.sa_ast.specs.declared.class.Access.{Access}
+use Rattle.sa_ast.specs.declared.class.Access.TheVariants.{Public}
+use Rattle.sa_ast.specs.declared.class.ClassKind.{ClassKind}
+use Rattle.sa_ast.specs.declared.class.ClassKind.TheVariants as kinds
+use Rattle.sa_parser_expr.specs.Lexemes.{Lexeme}
+use Rattle.sa_parser_expr.specs.Tests.{is_word, is_word_kind, is_feature, is_feature_kind}
+use Rattle.sa_parser_expr.specs.Forms.{Form, opens}
+use Rattle.sa_parser_expr.proofs.Tested.{word_met, feature_met}
+use Rattle.sa_parser_expr.proofs.Shifts.{Shut, Meets}
+use Rattle.sa_parser.specs.declared.file.FileKind.{FileKind}
+use Rattle.sa_parser.specs.declared.file.FileKind.TheVariants.{Prelude, Program}
+use Rattle.sa_parser.specs.Signatures as sigs
+use Rattle.sa_parser.specs.Signatures.{IsSig}
+use Rattle.sa_parser.specs.Conditions as cond
+use Rattle.sa_parser.specs.Features as features
+use Rattle.sa_parser.specs.Features.{Enclosing, IsMember}
+use Rattle.sa_parser.specs.Classes.{invariants_of}
+use Rattle.sa_parser.specs.SignatureForms.{sig_form}
+use Rattle.sa_parser.specs.FeatureForms.{declared_or, routine_form, stub_or, builtin_or, open_form, invariant_or, member_form}
 use Rattle.sa_grammar.proofs.Parts.{Signature, Declaration}
 use Rattle.sa_grammar.proofs.ExpressionStarts.{meets_front}
 use Rattle.sa_grammar.proofs.FeaturesSound.{IsOpen, called, declared, constants, included, most}
@@ -35,14 +35,14 @@ or_none a b h k = ap (λ x. x || b) h ∙ k
 
 -- ---- what opens the alternatives
 
-opens_stub : (kind : Kind) (access : Access) (other : Form Declaration) (l : Lexeme) → opens other l ≡ true → opens (stub_or kind access other) l ≡ true
+opens_stub : (kind : ClassKind) (access : Access) (other : Form Declaration) (l : Lexeme) → opens other l ≡ true → opens (stub_or kind access other) l ≡ true
 unfolding stub_or
 opens_stub kinds.Partial access other l h = or_right (is_word word.Stub l) (opens other l) h
 opens_stub kinds.Reference access other l h = h
 opens_stub kinds.Immutable access other l h = h
 opens_stub kinds.Abstract access other l h = h
 
-stub_opens : (kind : Kind) (access : Access) (other : Form Declaration) (l : Lexeme) → kind ≡ kinds.Partial → is_word word.Stub l ≡ true → opens (stub_or kind access other) l ≡ true
+stub_opens : (kind : ClassKind) (access : Access) (other : Form Declaration) (l : Lexeme) → kind ≡ kinds.Partial → is_word word.Stub l ≡ true → opens (stub_or kind access other) l ≡ true
 unfolding stub_or
 stub_opens kinds.Partial access other l e h = or_first (is_word word.Stub l) (opens other l) h
 stub_opens _ access other l e h = absurd (cc)
@@ -127,7 +127,7 @@ member_opens class invariants (features.invariant e (cond.invariant {w = w} is c
 
 -- ---- what doesn't
 
-shuts_stub : (kind : Kind) (access : Access) (other : Form Declaration) (l : Lexeme) → is_word word.Stub l ≡ false → opens other l ≡ false → opens (stub_or kind access other) l ≡ false
+shuts_stub : (kind : ClassKind) (access : Access) (other : Form Declaration) (l : Lexeme) → is_word word.Stub l ≡ false → opens other l ≡ false → opens (stub_or kind access other) l ≡ false
 unfolding stub_or
 shuts_stub kinds.Partial access other l k h = or_none (is_word word.Stub l) (opens other l) k h
 shuts_stub kinds.Reference access other l k h = h

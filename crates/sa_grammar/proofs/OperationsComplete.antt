@@ -1,24 +1,24 @@
 -- The forms of what follows a first, and of operators, are complete.
 use Rattle.std.proofs.Common.{◌≡◌, ℕ, suc, ◌+◌, ◌<◌, Bool, true, false, ◌||◌, is_some, List, [], ◌∷◌, ◌++◌, length, refl, sym, ap, arith, length-append, Option, Some}
 use Rattle.std.proofs.lemmas.Bool.{or_left, or_right}
-use Rattle.sa_lex.specs.declared.token.TokenKind.{TokenKind}
-use Rattle.sa_lex.specs.declared.sign.Sign.TheVariants as sign
-use Rattle.sa_tree.specs.declared.pos.Pos.{Pos}
-use Rattle.sa_tree.specs.declared.expr.Op.{Op}
-use Rattle.sa_tree.specs.declared.expr.Recv.TheVariants.{Of}
-use Rattle.sa_tree.specs.declared.expr.Expr.{Expr}
-use Rattle.sa_tree.specs.declared.expr.Expr.TheVariants as tree
-use Rattle.sa_parse_expr.specs.declared.grammar.Scope.{Scope}
-use Rattle.sa_parse_expr.specs.Lexemes.{Lexeme, IsSign}
-use Rattle.sa_parse_expr.specs.Expressions as exprs
-use Rattle.sa_parse_expr.specs.Expressions.{IsCall, IsExprs, IsPost, IsPower, IsUnary, IsOperator, IsOperand, IsOperation, IsExpr}
-use Rattle.sa_parse_expr.specs.Arounds.{Around, Where, outside, around_of}
-use Rattle.sa_parse_expr.specs.Readings.{Read}
-use Rattle.sa_parse_expr.specs.Tests.{is_sign, is_sign_kind, or_any, is_operator, operator_of}
-use Rattle.sa_parse_expr.specs.Forms.{Form, placed, make, Reader, place_of, Nested, Tree, unary, power}
-use Rattle.sa_parse_expr.specs.ExpressionForms.{first_form, goes_on, going_form, placed_post_form, post_form, power_form, unary_form}
-use Rattle.sa_parse_expr.specs.ExpressionForms.{operation_form, product_form, sum_form, comparison_form, expr_form}
-use Rattle.sa_parse_expr.proofs.Tested.{sign_met, other_sign}
+use Rattle.sa_lexer.specs.declared.token.TokenKind.{TokenKind}
+use Rattle.sa_lexer.specs.declared.sign.Sign.TheVariants as sign
+use Rattle.sa_ast.specs.declared.pos.Pos.{Pos}
+use Rattle.sa_ast.specs.declared.expr.Operator.{Operator}
+use Rattle.sa_ast.specs.declared.expr.ExprReceiver.TheVariants.{Of}
+use Rattle.sa_ast.specs.declared.expr.Expr.{Expr}
+use Rattle.sa_ast.specs.declared.expr.Expr.TheVariants as tree
+use Rattle.sa_parser_expr.specs.declared.grammar.ConditionScope.{ConditionScope}
+use Rattle.sa_parser_expr.specs.Lexemes.{Lexeme, IsSign}
+use Rattle.sa_parser_expr.specs.Expressions as exprs
+use Rattle.sa_parser_expr.specs.Expressions.{IsCall, IsExprs, IsPost, IsPower, IsUnary, IsOperator, IsOperand, IsOperation, IsExpr}
+use Rattle.sa_parser_expr.specs.Enclosures.{Enclosure, Where, outside, enclosure_of}
+use Rattle.sa_parser_expr.specs.Readings.{Read}
+use Rattle.sa_parser_expr.specs.Tests.{is_sign, is_sign_kind, or_any, is_operator, operator_of}
+use Rattle.sa_parser_expr.specs.Forms.{Form, placed, make, Reader, pos_of, Nested, Ast, unary, power}
+use Rattle.sa_parser_expr.specs.ExpressionForms.{first_form, goes_on, going_form, placed_post_form, post_form, power_form, unary_form}
+use Rattle.sa_parser_expr.specs.ExpressionForms.{operation_form, product_form, sum_form, comparison_form, expr_form}
+use Rattle.sa_parser_expr.proofs.Tested.{sign_met, other_sign}
 use Rattle.sa_grammar.proofs.Sound.{place_of_front}
 use Rattle.sa_grammar.proofs.Complete.{Reads, reads-give, reads-met, reads-other, reads-follow, reads-make, reads-placed, reads-as, reads-joined}
 use Rattle.sa_grammar.proofs.Complete.{Gathers, gathers-first, gathers-more, reads-gathered}
@@ -31,16 +31,16 @@ use Rattle.sa_grammar.proofs.ExpressionsSound.{Spells, post_some}
 use Rattle.sa_grammar.proofs.ExpressionsComplete.{EndsOf, nest_read, call_read, places_read, first_read}
 
 -- the operators of a precedence don't go on with their operands
-multiplying_ends : (op : Op) (o : Lexeme) → IsOperator Multiplying op o → (rest : List Lexeme) → Ends after_power (o ∷ rest)
+multiplying_ends : (op : Operator) (o : Lexeme) → IsOperator Multiplying op o → (rest : List Lexeme) → Ends after_power (o ∷ rest)
 multiplying_ends op o (exprs.multiplying (exprs.star is)) rest = kind_ends after_power o rest is.kind refl
 multiplying_ends op o (exprs.multiplying (exprs.slash is)) rest = kind_ends after_power o rest is.kind refl
 multiplying_ends op o (exprs.multiplying (exprs.percent is)) rest = kind_ends after_power o rest is.kind refl
 
-adding_ends : (op : Op) (o : Lexeme) → IsOperator Adding op o → (rest : List Lexeme) → Ends after_product (o ∷ rest)
+adding_ends : (op : Operator) (o : Lexeme) → IsOperator Adding op o → (rest : List Lexeme) → Ends after_product (o ∷ rest)
 adding_ends op o (exprs.adding (exprs.plus is)) rest = kind_ends after_product o rest is.kind refl
 adding_ends op o (exprs.adding (exprs.minus is)) rest = kind_ends after_product o rest is.kind refl
 
-comparing_ends : (op : Op) (o : Lexeme) → IsOperator Comparing op o → (rest : List Lexeme) → Ends after_sum (o ∷ rest)
+comparing_ends : (op : Operator) (o : Lexeme) → IsOperator Comparing op o → (rest : List Lexeme) → Ends after_sum (o ∷ rest)
 comparing_ends op o (exprs.comparing (exprs.equal is)) rest = kind_ends after_sum o rest is.kind refl
 comparing_ends op o (exprs.comparing (exprs.not_equal is)) rest = kind_ends after_sum o rest is.kind refl
 comparing_ends op o (exprs.comparing (exprs.less is)) rest = kind_ends after_sum o rest is.kind refl
@@ -48,40 +48,40 @@ comparing_ends op o (exprs.comparing (exprs.less_equal is)) rest = kind_ends aft
 comparing_ends op o (exprs.comparing (exprs.greater is)) rest = kind_ends after_sum o rest is.kind refl
 comparing_ends op o (exprs.comparing (exprs.greater_equal is)) rest = kind_ends after_sum o rest is.kind refl
 
-logical_ends : (op : Op) (o : Lexeme) → IsOperator Logical op o → (rest : List Lexeme) → Ends after_comparison (o ∷ rest)
+logical_ends : (op : Operator) (o : Lexeme) → IsOperator Logical op o → (rest : List Lexeme) → Ends after_comparison (o ∷ rest)
 logical_ends op o (exprs.logical (exprs.and_word is)) rest = kind_ends after_comparison o rest is.kind refl
 logical_ends op o (exprs.logical (exprs.or_word is)) rest = kind_ends after_comparison o rest is.kind refl
 
-module _ (level : ℕ) (nested : (n : Nested) → Reader (Tree n))
-    (inside : (n : Nested) (ls : List Lexeme) (t : Tree n) (rest : List Lexeme) → Spells n ls t → length ls < level → EndsOf n rest → nested n (ls ++ rest) ≡ Read t rest) where
+module _ (level : ℕ) (nested : (n : Nested) → Reader (Ast n))
+    (inside : (n : Nested) (ls : List Lexeme) (t : Ast n) (rest : List Lexeme) → Spells n ls t → length ls < level → EndsOf n rest → nested n (ls ++ rest) ≡ Read t rest) where
   -- ---- what follows a first
 
-  call_goes : {s : Scope} (b : Bool) → b ≡ true → (place : Pos) (a : Expr) {ms : List Lexeme} {e : Expr} (rest : List Lexeme) → IsCall s (Of a) ms e → length ms < suc level
+  call_goes : {s : ConditionScope} (b : Bool) → b ≡ true → (place : Pos) (a : Expr) {ms : List Lexeme} {e : Expr} (rest : List Lexeme) → IsCall s (Of a) ms e → length ms < suc level
       → Ends after_first rest → Reads level nested (going_form b s (place, a)) (ms ++ rest) (place, e) rest
   unfolding going_form
   call_goes false is place a rest called small ends = absurd (cc)
   call_goes true is place a rest called small ends = reads-make (call_read level nested inside rest called small (first_shuts_paren rest ends))
 
-  index_goes : {s : Scope} (b : Bool) → b ≡ false → (place : Pos) (a : Expr) {ms : List Lexeme} {places : List Expr} (closed : Lexeme) (rest : List Lexeme)
-      → IsExprs s (around_of outside) ms places → IsSign sign.RightBracket closed → length (ms ++ closed ∷ []) < level
+  index_goes : {s : ConditionScope} (b : Bool) → b ≡ false → (place : Pos) (a : Expr) {ms : List Lexeme} {places : List Expr} (closed : Lexeme) (rest : List Lexeme)
+      → IsExprs s (enclosure_of outside) ms places → IsSign sign.RightBracket closed → length (ms ++ closed ∷ []) < level
       → Reads level nested (going_form b s (place, a)) ((ms ++ closed ∷ []) ++ rest) (place, tree.Index (Some a) places place) rest
   unfolding going_form
   index_goes true is place a closed rest among closes small = absurd (cc)
   index_goes false is place a closed rest among closes small = reads-make (places_read level nested inside closed rest among closes small)
 
-  post_gathers : (s : Scope) (x : Where) (y : Around) → y ≡ around_of x → {ls : List Lexeme} {e : Expr} → IsPost s y ls e → length ls < suc level
-      → Gathers level nested (Ends after_first) (placed (first_form s x)) goes_on (λ so_far l. going_form (is_sign sign.Dot l) s so_far) ls (place_of ls, e)
+  post_gathers : (s : ConditionScope) (x : Where) (y : Enclosure) → y ≡ enclosure_of x → {ls : List Lexeme} {e : Expr} → IsPost s y ls e → length ls < suc level
+      → Gathers level nested (Ends after_first) (placed (first_form s x)) goes_on (λ so_far l. going_form (is_sign sign.Dot l) s so_far) ls (pos_of ls, e)
   post_gathers s x y same (exprs.first {ls = ls} {e = e} h) small =
-      gathers-first level nested (Ends after_first) (placed (first_form s x)) goes_on (λ so_far l. going_form (is_sign sign.Dot l) s so_far) ls (place_of ls, e)
+      gathers-first level nested (Ends after_first) (placed (first_form s x)) goes_on (λ so_far l. going_form (is_sign sign.Dot l) s so_far) ls (pos_of ls, e)
       (λ rest ends. reads-as (ap (λ place. (place, e)) (place_of_front (IsPost s y) post_some ls rest e (exprs.first h)))
       (reads-placed (first_read level nested inside s x y same rest h small ends)))
   post_gathers s x y same (exprs.call_on {ls = ls} {ms = ms} {dot = dot} {a = a} {e = e} h is called) small =
       let sum : length (ls ++ dot ∷ ms) ≡ length ls + suc (length ms) = length-append ls (dot ∷ ms) in
       gathers-more level nested (Ends after_first) (placed (first_form s x)) goes_on (λ so_far l. going_form (is_sign sign.Dot l) s so_far)
-      ls (place_of ls, a) (post_gathers s x y same h (omega arith)) (omega arith) dot ms (place_of (ls ++ dot ∷ ms), e)
+      ls (pos_of ls, a) (post_gathers s x y same h (omega arith)) (omega arith) dot ms (pos_of (ls ++ dot ∷ ms), e)
       (or_left (is_sign sign.Dot dot) (is_sign sign.LeftBracket dot) (sign_met is)) (λ rest. kind_ends after_first dot rest is.kind refl)
       (λ rest ends. reads-as (ap (λ place. (place, e)) (sym (place_of_front (IsPost s y) post_some ls (dot ∷ ms) a h)))
-      (call_goes (is_sign sign.Dot dot) (sign_met is) (place_of ls) a rest called (omega arith) ends))
+      (call_goes (is_sign sign.Dot dot) (sign_met is) (pos_of ls) a rest called (omega arith) ends))
   post_gathers s x y same (exprs.index_of {l = l} {ls = ls} {a = a} {places = places} h (exprs.places {opening = begun} {closing = closed} {ls = ms} entered among closes)) small =
       let sum : length ((l ∷ ls) ++ begun ∷ (ms ++ closed ∷ [])) ≡ suc (length ls) + suc (length (ms ++ closed ∷ [])) = length-append (l ∷ ls) (begun ∷ (ms ++ closed ∷ [])) in
       gathers-more level nested (Ends after_first) (placed (first_form s x)) goes_on (λ so_far l. going_form (is_sign sign.Dot l) s so_far)
@@ -89,17 +89,17 @@ module _ (level : ℕ) (nested : (n : Nested) → Reader (Tree n))
       (or_right (is_sign sign.Dot begun) (is_sign sign.LeftBracket begun) (sign_met entered)) (λ rest. kind_ends after_first begun rest entered.kind refl)
       (λ rest ends. index_goes (is_sign sign.Dot begun) (other_sign sign.Dot refl entered) l.pos a closed rest among closes (omega arith))
 
-  pub post_read : (s : Scope) (x : Where) {ls : List Lexeme} {e : Expr} (rest : List Lexeme) → IsPost s (around_of x) ls e → length ls < suc level → Ends after_post rest
+  pub post_read : (s : ConditionScope) (x : Where) {ls : List Lexeme} {e : Expr} (rest : List Lexeme) → IsPost s (enclosure_of x) ls e → length ls < suc level → Ends after_post rest
       → Reads level nested (post_form s x) (ls ++ rest) e rest
   unfolding post_form placed_post_form
   post_read s x {ls = ls} {e = e} rest h small ends =
       reads-make {f = λ whole. whole.1}
-      (reads-gathered level nested (Ends after_first) (placed (first_form s x)) goes_on (λ so_far l. going_form (is_sign sign.Dot l) s so_far) ls (place_of ls, e) rest
-      (post_gathers s x (around_of x) refl h small) small (ends_left after_first goes_on_kind rest ends) (ends_right after_first goes_on_kind rest ends))
+      (reads-gathered level nested (Ends after_first) (placed (first_form s x)) goes_on (λ so_far l. going_form (is_sign sign.Dot l) s so_far) ls (pos_of ls, e) rest
+      (post_gathers s x (enclosure_of x) refl h small) small (ends_left after_first goes_on_kind rest ends) (ends_right after_first goes_on_kind rest ends))
 
   -- ---- operators
 
-  pub power_read : (s : Scope) (x : Where) {ls : List Lexeme} {e : Expr} (rest : List Lexeme) → IsPower s (around_of x) ls e → length ls < suc level → Ends after_power rest
+  pub power_read : (s : ConditionScope) (x : Where) {ls : List Lexeme} {e : Expr} (rest : List Lexeme) → IsPower s (enclosure_of x) ls e → length ls < suc level → Ends after_power rest
       → Reads level nested (power_form s x) (ls ++ rest) e rest
   unfolding power_form
   power_read s x rest (exprs.post h) small ends =
@@ -110,7 +110,7 @@ module _ (level : ℕ) (nested : (n : Nested) → Reader (Tree n))
       (reads-follow (post_read s x (o ∷ (ms ++ rest)) h (omega arith) (kind_ends after_post o (ms ++ rest) is.kind refl))
       (reads-met (sign_met is) (reads-make (nest_read level nested inside (power s x) ms b rest k (omega arith) ends))))
 
-  pub unary_read : (s : Scope) (x : Where) {ls : List Lexeme} {e : Expr} (rest : List Lexeme) → IsUnary s (around_of x) ls e → length ls < suc level → Ends after_power rest
+  pub unary_read : (s : ConditionScope) (x : Where) {ls : List Lexeme} {e : Expr} (rest : List Lexeme) → IsUnary s (enclosure_of x) ls e → length ls < suc level → Ends after_power rest
       → Reads level nested (unary_form s x) (ls ++ rest) e rest
   unfolding unary_form
   unary_read s x rest (exprs.prefix {ls = ls} {o = o} {e = e} is h) small ends =
@@ -118,8 +118,8 @@ module _ (level : ℕ) (nested : (n : Nested) → Reader (Tree n))
       (reads-as (ap (λ op. tree.Unary (or_any op) e o.pos) (prefix_met is)) (reads-make (nest_read level nested inside (unary s x) ls e rest h (omega arith) ends)))
   unary_read s x rest (exprs.power {ls = ls} h) small ends = reads-other (prefix_shut s ls rest (power_starts h)) (power_read s x rest h small ends)
 
-module _ (level : ℕ) (nested : (n : Nested) → Reader (Tree n)) {s : Scope} {p : Precedence} {x : Around} {operators : TokenKind → Option Op} (are : AreOperators p operators)
-    (operand : Form Expr) (after : TokenKind → Bool) (operator_ends : (op : Op) (o : Lexeme) → IsOperator p op o → (rest : List Lexeme) → Ends after (o ∷ rest))
+module _ (level : ℕ) (nested : (n : Nested) → Reader (Ast n)) {s : ConditionScope} {p : Precedence} {x : Enclosure} {operators : TokenKind → Option Operator} (are : AreOperators p operators)
+    (operand : Form Expr) (after : TokenKind → Bool) (operator_ends : (op : Operator) (o : Lexeme) → IsOperator p op o → (rest : List Lexeme) → Ends after (o ∷ rest))
     (each : (ls : List Lexeme) (e : Expr) (rest : List Lexeme) → IsOperand s p x ls e → length ls < suc level → Ends after rest → Reads level nested operand (ls ++ rest) e rest) where
   operation_gathers : {ls : List Lexeme} {e : Expr} → IsOperation s p x ls e → length ls < suc level
       → Gathers level nested (Ends after) operand (is_operator operators) (λ a o. make (λ b. tree.Binary (operator_of operators o) a b o.pos) operand) ls e
@@ -139,32 +139,32 @@ module _ (level : ℕ) (nested : (n : Nested) → Reader (Tree n)) {s : Scope} {
       reads-gathered level nested (Ends after) operand (is_operator operators) (λ a o. make (λ b. tree.Binary (operator_of operators o) a b o.pos) operand) ls e rest
       (operation_gathers h small) small (ends_left after (λ k. is_some (operators k)) rest ends) (ends_right after (λ k. is_some (operators k)) rest ends)
 
-module _ (level : ℕ) (nested : (n : Nested) → Reader (Tree n))
-    (inside : (n : Nested) (ls : List Lexeme) (t : Tree n) (rest : List Lexeme) → Spells n ls t → length ls < level → EndsOf n rest → nested n (ls ++ rest) ≡ Read t rest)
-    (s : Scope) (x : Where) where
-  unary_operand : (ls : List Lexeme) (e : Expr) (rest : List Lexeme) → IsOperand s Multiplying (around_of x) ls e → length ls < suc level → Ends after_power rest
+module _ (level : ℕ) (nested : (n : Nested) → Reader (Ast n))
+    (inside : (n : Nested) (ls : List Lexeme) (t : Ast n) (rest : List Lexeme) → Spells n ls t → length ls < level → EndsOf n rest → nested n (ls ++ rest) ≡ Read t rest)
+    (s : ConditionScope) (x : Where) where
+  unary_operand : (ls : List Lexeme) (e : Expr) (rest : List Lexeme) → IsOperand s Multiplying (enclosure_of x) ls e → length ls < suc level → Ends after_power rest
       → Reads level nested (unary_form s x) (ls ++ rest) e rest
   unary_operand ls e rest (exprs.of_multiplying h) small ends = unary_read level nested inside s x rest h small ends
 
-  product_operand : (ls : List Lexeme) (e : Expr) (rest : List Lexeme) → IsOperand s Adding (around_of x) ls e → length ls < suc level → Ends after_product rest
+  product_operand : (ls : List Lexeme) (e : Expr) (rest : List Lexeme) → IsOperand s Adding (enclosure_of x) ls e → length ls < suc level → Ends after_product rest
       → Reads level nested (product_form s x) (ls ++ rest) e rest
   unfolding product_form
   product_operand ls e rest (exprs.of_adding h) small ends =
       operation_read level nested multiplying_operators (unary_form s x) after_power multiplying_ends unary_operand ls e rest h small ends
 
-  sum_operand : (ls : List Lexeme) (e : Expr) (rest : List Lexeme) → IsOperand s Comparing (around_of x) ls e → length ls < suc level → Ends after_sum rest
+  sum_operand : (ls : List Lexeme) (e : Expr) (rest : List Lexeme) → IsOperand s Comparing (enclosure_of x) ls e → length ls < suc level → Ends after_sum rest
       → Reads level nested (sum_form s x) (ls ++ rest) e rest
   unfolding sum_form
   sum_operand ls e rest (exprs.of_comparing h) small ends =
       operation_read level nested adding_operators (product_form s x) after_product adding_ends product_operand ls e rest h small ends
 
-  comparison_operand : (ls : List Lexeme) (e : Expr) (rest : List Lexeme) → IsOperand s Logical (around_of x) ls e → length ls < suc level → Ends after_comparison rest
+  comparison_operand : (ls : List Lexeme) (e : Expr) (rest : List Lexeme) → IsOperand s Logical (enclosure_of x) ls e → length ls < suc level → Ends after_comparison rest
       → Reads level nested (comparison_form s x) (ls ++ rest) e rest
   unfolding comparison_form
   comparison_operand ls e rest (exprs.of_logical h) small ends =
       operation_read level nested comparing_operators (sum_form s x) after_sum comparing_ends sum_operand ls e rest h small ends
 
-  pub expr_read : (ls : List Lexeme) (e : Expr) (rest : List Lexeme) → IsExpr s (around_of x) ls e → length ls < suc level → Ends after_expr rest
+  pub expr_read : (ls : List Lexeme) (e : Expr) (rest : List Lexeme) → IsExpr s (enclosure_of x) ls e → length ls < suc level → Ends after_expr rest
       → Reads level nested (expr_form s x) (ls ++ rest) e rest
   unfolding expr_form
   expr_read ls e rest (exprs.logical_operation h) small ends =

@@ -1,17 +1,17 @@
 -- Operators: what is read of them, and names for their precedences, whose enumeration isn't exported.
 use Rattle.std.proofs.Common.{◌≡◌, true, refl, ap, is_some, Option, Some}
-use Rattle.sa_lex.specs.declared.token.TokenKind.{TokenKind}
-use Rattle.sa_lex.specs.declared.token.TokenKind.TheVariants as token
-use Rattle.sa_lex.specs.declared.sign.Sign.{Sign}
-use Rattle.sa_lex.specs.declared.sign.Sign.TheVariants as sign
-use Rattle.sa_lex.specs.declared.word.Word.{Word}
-use Rattle.sa_lex.specs.declared.word.Word.TheVariants as word
-use Rattle.sa_tree.specs.declared.expr.Op.{Op}
-use Rattle.sa_parse_expr.specs.Lexemes.{Lexeme}
-use Rattle.sa_parse_expr.specs.Expressions as exprs
-use Rattle.sa_parse_expr.specs.Expressions.{IsLogical, IsComparing, IsAdding, IsMultiplying, IsOperator, IsPrefix}
-use Rattle.sa_parse_expr.specs.Tests.{logical_word, comparing_sign, adding_sign, multiplying_sign, prefix_sign}
-use Rattle.sa_parse_expr.specs.Tests.{logical_kind, comparing_kind, adding_kind, multiplying_kind, prefix_kind, or_any, is_operator, operator_of}
+use Rattle.sa_lexer.specs.declared.token.TokenKind.{TokenKind}
+use Rattle.sa_lexer.specs.declared.token.TokenKind.TheVariants as token
+use Rattle.sa_lexer.specs.declared.sign.Sign.{Sign}
+use Rattle.sa_lexer.specs.declared.sign.Sign.TheVariants as sign
+use Rattle.sa_lexer.specs.declared.word.Word.{Word}
+use Rattle.sa_lexer.specs.declared.word.Word.TheVariants as word
+use Rattle.sa_ast.specs.declared.expr.Operator.{Operator}
+use Rattle.sa_parser_expr.specs.Lexemes.{Lexeme}
+use Rattle.sa_parser_expr.specs.Expressions as exprs
+use Rattle.sa_parser_expr.specs.Expressions.{IsLogical, IsComparing, IsAdding, IsMultiplying, IsOperator, IsPrefix}
+use Rattle.sa_parser_expr.specs.Tests.{logical_word, comparing_sign, adding_sign, multiplying_sign, prefix_sign}
+use Rattle.sa_parser_expr.specs.Tests.{logical_kind, comparing_kind, adding_kind, multiplying_kind, prefix_kind, or_any, is_operator, operator_of}
 
 -- ---- precedences
 
@@ -22,7 +22,7 @@ abbrev pub Precedence : Type 0
 Precedence = first IsOperator
 
 -- the precedence of what these operators are
-abbrev precedence_of : {R : Op → Lexeme → Type 0} {p : Precedence} → ((op : Op) (l : Lexeme) → R op l → IsOperator p op l) → Precedence
+abbrev precedence_of : {R : Operator → Lexeme → Type 0} {p : Precedence} → ((op : Operator) (l : Lexeme) → R op l → IsOperator p op l) → Precedence
 precedence_of {p = p} gives = p
 
 abbrev pub Logical : Precedence
@@ -92,21 +92,21 @@ prefix_of l _ e h = absurd (cc)
 pub prefix_of_lexeme : (l : Lexeme) → is_operator prefix_kind l ≡ true → IsPrefix (operator_of prefix_kind l) l
 prefix_of_lexeme l h = prefix_of l l.kind refl h
 
-pub prefix_met : {op : Op} {l : Lexeme} → IsPrefix op l → prefix_kind l.kind ≡ Some op
+pub prefix_met : {op : Operator} {l : Lexeme} → IsPrefix op l → prefix_kind l.kind ≡ Some op
 prefix_met (exprs.negate is) = ap prefix_kind is.kind
 prefix_met (exprs.not_sign is) = ap prefix_kind is.kind
 
 -- ---- these are the operators of a precedence
 
-pub record AreOperators (p : Precedence) (operators : TokenKind → Option Op) : Type 0 where
-  pub stands : (l : Lexeme) → is_operator operators l ≡ true → IsOperator p (operator_of operators l) l
-  pub met : {op : Op} {l : Lexeme} → IsOperator p op l → operators l.kind ≡ Some op
+pub record AreOperators (p : Precedence) (operators : TokenKind → Option Operator) : Type 0 where
+  pub occurs : (l : Lexeme) → is_operator operators l ≡ true → IsOperator p (operator_of operators l) l
+  pub met : {op : Operator} {l : Lexeme} → IsOperator p op l → operators l.kind ≡ Some op
 
-logical_met : {op : Op} {l : Lexeme} → IsOperator Logical op l → logical_kind l.kind ≡ Some op
+logical_met : {op : Operator} {l : Lexeme} → IsOperator Logical op l → logical_kind l.kind ≡ Some op
 logical_met (exprs.logical (exprs.and_word is)) = ap logical_kind is.kind
 logical_met (exprs.logical (exprs.or_word is)) = ap logical_kind is.kind
 
-comparing_met : {op : Op} {l : Lexeme} → IsOperator Comparing op l → comparing_kind l.kind ≡ Some op
+comparing_met : {op : Operator} {l : Lexeme} → IsOperator Comparing op l → comparing_kind l.kind ≡ Some op
 comparing_met (exprs.comparing (exprs.equal is)) = ap comparing_kind is.kind
 comparing_met (exprs.comparing (exprs.not_equal is)) = ap comparing_kind is.kind
 comparing_met (exprs.comparing (exprs.less is)) = ap comparing_kind is.kind
@@ -114,23 +114,23 @@ comparing_met (exprs.comparing (exprs.less_equal is)) = ap comparing_kind is.kin
 comparing_met (exprs.comparing (exprs.greater is)) = ap comparing_kind is.kind
 comparing_met (exprs.comparing (exprs.greater_equal is)) = ap comparing_kind is.kind
 
-adding_met : {op : Op} {l : Lexeme} → IsOperator Adding op l → adding_kind l.kind ≡ Some op
+adding_met : {op : Operator} {l : Lexeme} → IsOperator Adding op l → adding_kind l.kind ≡ Some op
 adding_met (exprs.adding (exprs.plus is)) = ap adding_kind is.kind
 adding_met (exprs.adding (exprs.minus is)) = ap adding_kind is.kind
 
-multiplying_met : {op : Op} {l : Lexeme} → IsOperator Multiplying op l → multiplying_kind l.kind ≡ Some op
+multiplying_met : {op : Operator} {l : Lexeme} → IsOperator Multiplying op l → multiplying_kind l.kind ≡ Some op
 multiplying_met (exprs.multiplying (exprs.star is)) = ap multiplying_kind is.kind
 multiplying_met (exprs.multiplying (exprs.slash is)) = ap multiplying_kind is.kind
 multiplying_met (exprs.multiplying (exprs.percent is)) = ap multiplying_kind is.kind
 
 pub logical_operators : AreOperators Logical logical_kind
-logical_operators = record { stands = λ l h. logical_of l l.kind refl h; met = logical_met }
+logical_operators = record { occurs = λ l h. logical_of l l.kind refl h; met = logical_met }
 
 pub comparing_operators : AreOperators Comparing comparing_kind
-comparing_operators = record { stands = λ l h. comparing_of l l.kind refl h; met = comparing_met }
+comparing_operators = record { occurs = λ l h. comparing_of l l.kind refl h; met = comparing_met }
 
 pub adding_operators : AreOperators Adding adding_kind
-adding_operators = record { stands = λ l h. adding_of l l.kind refl h; met = adding_met }
+adding_operators = record { occurs = λ l h. adding_of l l.kind refl h; met = adding_met }
 
 pub multiplying_operators : AreOperators Multiplying multiplying_kind
-multiplying_operators = record { stands = λ l h. multiplying_of l l.kind refl h; met = multiplying_met }
+multiplying_operators = record { occurs = λ l h. multiplying_of l l.kind refl h; met = multiplying_met }

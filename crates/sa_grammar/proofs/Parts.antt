@@ -1,17 +1,17 @@
 -- What parts of classes spell, by names of its own: the types of such parts aren't exported, so they are taken from the relations of
 -- the grammar, and so are the ways to make them.
 use Rattle.std.specs.Prelude.{List, [], refl}
-use Rattle.sa_tree.specs.declared.class.Access.TheVariants.{Public}
-use Rattle.sa_tree.specs.declared.class.Kind.TheVariants.{Reference}
-use Rattle.sa_tree.specs.declared.class.Feature.{Feature}
-use Rattle.sa_tree.specs.declared.contract.Condition.{Condition}
-use Rattle.sa_parse_expr.specs.Readings.{Spelling}
-use Rattle.sa_parse.specs.declared.file.FileKind.TheVariants.{Program}
-use Rattle.sa_parse.specs.Signatures.{IsSig}
-use Rattle.sa_parse.specs.Conditions.{IsClauses, IsInvariant}
-use Rattle.sa_parse.specs.Features as features
-use Rattle.sa_parse.specs.Features.{Enclosing, IsPrivate, IsOptionalChanges, IsSharedParts, IsDeclared, IsCalled, IsMember}
-use Rattle.sa_parse.specs.Classes.{IsAbstractHead}
+use Rattle.sa_ast.specs.declared.class.Access.TheVariants.{Public}
+use Rattle.sa_ast.specs.declared.class.ClassKind.TheVariants.{Reference}
+use Rattle.sa_ast.specs.declared.class.Feature.{Feature}
+use Rattle.sa_ast.specs.declared.contract.Condition.{Condition}
+use Rattle.sa_parser_expr.specs.Readings.{Spelling}
+use Rattle.sa_parser.specs.declared.file.FileKind.TheVariants.{Program}
+use Rattle.sa_parser.specs.Signatures.{IsSig}
+use Rattle.sa_parser.specs.Conditions.{IsClauses, IsInvariant}
+use Rattle.sa_parser.specs.Features as features
+use Rattle.sa_parser.specs.Features.{Enclosing, IsPrivate, IsOptionalChanges, IsSharedParts, IsDeclared, IsCalled, IsMember}
+use Rattle.sa_parser.specs.Classes.{IsAbstractHead}
 
 -- what a relation gives
 abbrev spelled_by : {A : Type 0} → Spelling A → Type 0

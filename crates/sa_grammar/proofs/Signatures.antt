@@ -1,29 +1,29 @@
 -- Signatures: each of their forms is sound and complete.
 use Rattle.std.proofs.Common.{◌≡◌, ℕ, suc, ◌+◌, ◌<◌, Bool, ◌||◌, List, [], ◌∷◌, ◌++◌, length, refl, ap, subst, append_assoc, append-nil, arith, length-append, Option, None, map}
-use Rattle.sa_lex.specs.declared.token.TokenKind.{TokenKind}
-use Rattle.sa_lex.specs.declared.token.TokenKind.TheVariants as token
-use Rattle.sa_lex.specs.declared.sign.Sign.TheVariants as sign
-use Rattle.sa_lex.specs.declared.word.Word.TheVariants as word
-use Rattle.sa_tree.specs.declared.ty.Mode.{Mode}
-use Rattle.sa_tree.specs.declared.ty.Ty.{Ty}
-use Rattle.sa_tree.specs.declared.ty.Ty.TheVariants as ty
-use Rattle.sa_tree.specs.declared.stmt.Local.{Local}
-use Rattle.sa_tree.specs.declared.class.Formal.{Formal}
-use Rattle.sa_parse_expr.specs.declared.types.CallableKind.{CallableKind}
-use Rattle.sa_parse_expr.specs.Lexemes.{Lexeme, IsSign, lower_name, name_of}
-use Rattle.sa_parse_expr.specs.Types as types
-use Rattle.sa_parse_expr.specs.Types.{IsMode, IsType}
-use Rattle.sa_parse_expr.specs.Readings.{Read}
-use Rattle.sa_parse_expr.specs.Tests.{is_sign, is_sign_kind}
-use Rattle.sa_parse_expr.specs.Forms.{Reader, Nested, Tree, type}
-use Rattle.sa_parse_expr.specs.StatementForms.{name_form, joined, names_form}
-use Rattle.sa_parse_expr.proofs.Tested.{sign_stands, feature_stands, sign_met, feature_met, other_sign, lexeme, a_sign, a_word}
-use Rattle.sa_parse_expr.proofs.Shifts.{Shut}
-use Rattle.sa_parse.specs.Names as names
-use Rattle.sa_parse.specs.Names.{IsLower, IsName, IsNames}
-use Rattle.sa_parse.specs.Signatures as sigs
-use Rattle.sa_parse.specs.Signatures.{IsFormal, IsFormals, IsArguments, IsWrittenResult, IsSig, callable_of, formal_of}
-use Rattle.sa_parse.specs.SignatureForms.{formal_form, formals_form, arguments_form, written_result_form, sig_form}
+use Rattle.sa_lexer.specs.declared.token.TokenKind.{TokenKind}
+use Rattle.sa_lexer.specs.declared.token.TokenKind.TheVariants as token
+use Rattle.sa_lexer.specs.declared.sign.Sign.TheVariants as sign
+use Rattle.sa_lexer.specs.declared.word.Word.TheVariants as word
+use Rattle.sa_ast.specs.declared.ty.Mode.{Mode}
+use Rattle.sa_ast.specs.declared.ty.Ty.{Ty}
+use Rattle.sa_ast.specs.declared.ty.Ty.TheVariants as ty
+use Rattle.sa_ast.specs.declared.stmt.Local.{Local}
+use Rattle.sa_ast.specs.declared.class.FormalParam.{FormalParam}
+use Rattle.sa_parser_expr.specs.declared.types.CallableKind.{CallableKind}
+use Rattle.sa_parser_expr.specs.Lexemes.{Lexeme, IsSign, lower_name, name_of}
+use Rattle.sa_parser_expr.specs.Types as types
+use Rattle.sa_parser_expr.specs.Types.{IsMode, IsType}
+use Rattle.sa_parser_expr.specs.Readings.{Read}
+use Rattle.sa_parser_expr.specs.Tests.{is_sign, is_sign_kind}
+use Rattle.sa_parser_expr.specs.Forms.{Reader, Nested, Ast, type}
+use Rattle.sa_parser_expr.specs.StatementForms.{name_form, joined, names_form}
+use Rattle.sa_parser_expr.proofs.Tested.{sign_stands, feature_stands, sign_met, feature_met, other_sign, lexeme, a_sign, a_word}
+use Rattle.sa_parser_expr.proofs.Shifts.{Shut}
+use Rattle.sa_parser.specs.Names as names
+use Rattle.sa_parser.specs.Names.{IsLower, IsName, IsNames}
+use Rattle.sa_parser.specs.Signatures as sigs
+use Rattle.sa_parser.specs.Signatures.{IsFormal, IsFormals, IsArguments, IsWrittenResult, IsSig, callable_of, formal_of}
+use Rattle.sa_parser.specs.SignatureForms.{formal_form, formals_form, arguments_form, written_result_form, sig_form}
 use Rattle.sa_grammar.proofs.Parts.{Signature}
 use Rattle.sa_grammar.proofs.Sound.{Sound, Listed, last, more}
 use Rattle.sa_grammar.proofs.Sound.{IsSound, sound-give, sound-refuse, sound-shift, sound-follow, sound-list, sound-make, sound-until}
@@ -45,17 +45,17 @@ names_listed (more {l = l} (names.one_name k) parting rest) = names.all_names k 
 names_separated : {ls : List Lexeme} {all : List Local} → IsNames ls all → Listed (IsName IsLower) ls all
 names_separated (names.all_names k h) = listed_names k h
 
-formals_listed : (callable : CallableKind) (ls : List Lexeme) (lists : List (List Formal)) → Listed (IsFormal callable) ls lists → IsFormals callable ls (joined lists)
+formals_listed : (callable : CallableKind) (ls : List Lexeme) (lists : List (List FormalParam)) → Listed (IsFormal callable) ls lists → IsFormals callable ls (joined lists)
 formals_listed callable ls _ (last one) = rw append-nil (sigs.last one)
 formals_listed callable _ _ (more {ms = ms} {l = l} {others = others} one parting rest) =
     sigs.more one (sign_stands sign.Comma l parting) (formals_listed callable ms others rest)
 
-record FormalLists (callable : CallableKind) (ls : List Lexeme) (all : List Formal) : Type 0 where
-  lists : List (List Formal)
+record FormalLists (callable : CallableKind) (ls : List Lexeme) (all : List FormalParam) : Type 0 where
+  lists : List (List FormalParam)
   parts : Listed (IsFormal callable) ls lists
   whole : joined lists ≡ all
 
-formal_lists : {callable : CallableKind} {ls : List Lexeme} {all : List Formal} → IsFormals callable ls all → FormalLists callable ls all
+formal_lists : {callable : CallableKind} {ls : List Lexeme} {all : List FormalParam} → IsFormals callable ls all → FormalLists callable ls all
 formal_lists (sigs.last {formals = formals} one) = record { lists = formals ∷ []; parts = last one; whole = append-nil formals }
 formal_lists (sigs.more {formals = formals} one is others) =
     let rest = formal_lists others in
@@ -72,7 +72,7 @@ formal_at {callable = callable} {ls = ls} {ms = ms} {rest = rest} {colon = colon
 a_sig : IsSig (lexeme token.Lower ∷ []) (record { name = name_of (lexeme token.Lower); formals = []; result = None })
 a_sig = sigs.sig {f = lexeme token.Lower} (lower_name refl) sigs.IsArguments.absent sigs.IsWrittenResult.absent
 
-module _ (level : ℕ) (nested : (n : Nested) → Reader (Tree n)) (inside : (n : Nested) → Sound (Spells n) (nested n)) where
+module _ (level : ℕ) (nested : (n : Nested) → Reader (Ast n)) (inside : (n : Nested) → Sound (Spells n) (nested n)) where
   pub sound_names : IsSound level nested IsNames names_form
   sound_names = sound-list (sound_name level nested inside) (λ ls all. names_listed)
 
@@ -140,14 +140,14 @@ result_shuts : {ls : List Lexeme} {gives : Option Ty} (rest : List Lexeme) → I
 result_shuts rest sigs.IsWrittenResult.absent ends = ends_left (is_sign_kind sign.LeftParen) goes_on_type rest ends
 result_shuts rest (sigs.IsWrittenResult.given is one) ends = other_sign sign.LeftParen refl is
 
-module _ (level : ℕ) (nested : (n : Nested) → Reader (Tree n))
-    (inside : (n : Nested) (ls : List Lexeme) (t : Tree n) (rest : List Lexeme) → Spells n ls t → length ls < level → EndsOf n rest → nested n (ls ++ rest) ≡ Read t rest) where
+module _ (level : ℕ) (nested : (n : Nested) → Reader (Ast n))
+    (inside : (n : Nested) (ls : List Lexeme) (t : Ast n) (rest : List Lexeme) → Spells n ls t → length ls < level → EndsOf n rest → nested n (ls ++ rest) ≡ Read t rest) where
   pub names_read : {ls : List Lexeme} {all : List Local} (rest : List Lexeme) → IsNames ls all → length ls < level → Shut (is_sign sign.Comma) rest
       → Reads level nested names_form (ls ++ rest) all rest
   names_read rest h small shut =
       reads-list level nested (IsName IsLower) (λ rest. Unit {0}) name_form (name_read level nested inside) (λ l rest is. tt) rest (names_separated h) small tt shut
 
-  formal_read : (callable : CallableKind) (ls : List Lexeme) (formals : List Formal) (rest : List Lexeme) → IsFormal callable ls formals → length ls < level → EndsType rest
+  formal_read : (callable : CallableKind) (ls : List Lexeme) (formals : List FormalParam) (rest : List Lexeme) → IsFormal callable ls formals → length ls < level → EndsType rest
       → Reads level nested (formal_form callable) (ls ++ rest) formals rest
   unfolding formal_form
   formal_read callable _ _ rest (sigs.formal {ls = ls} {ms = ms} {rest = vs} {colon = colon} {t = t} first h is one) small ends =
@@ -159,18 +159,18 @@ module _ (level : ℕ) (nested : (n : Nested) → Reader (Tree n))
       (reads-follow (names_read (colon ∷ (vs ++ rest)) h (omega arith) (other_sign sign.Comma refl is))
       (reads-met (sign_met is) (reads-make (nest_read level nested inside type vs t rest one (omega arith) ends))))))
 
-  lists_read : {callable : CallableKind} {ls : List Lexeme} {all : List Formal} (rest : List Lexeme) → FormalLists callable ls all → length ls < level → EndsType rest
+  lists_read : {callable : CallableKind} {ls : List Lexeme} {all : List FormalParam} (rest : List Lexeme) → FormalLists callable ls all → length ls < level → EndsType rest
       → Shut (is_sign sign.Comma) rest → Reads level nested (formals_form callable) (ls ++ rest) all rest
   unfolding formals_form
   lists_read {callable = callable} rest h small ends shut =
       reads-as h.whole
       (reads-make (reads-list level nested (IsFormal callable) EndsType (formal_form callable) (formal_read callable) (sign_ends sign.Comma refl refl) rest h.parts small ends shut))
 
-  pub formals_read : (callable : CallableKind) {ls : List Lexeme} {all : List Formal} (rest : List Lexeme) → IsFormals callable ls all → length ls < level → EndsType rest
+  pub formals_read : (callable : CallableKind) {ls : List Lexeme} {all : List FormalParam} (rest : List Lexeme) → IsFormals callable ls all → length ls < level → EndsType rest
       → Shut (is_sign sign.Comma) rest → Reads level nested (formals_form callable) (ls ++ rest) all rest
   formals_read callable rest h small ends shut = lists_read rest (formal_lists h) small ends shut
 
-  arguments_read : (callable : CallableKind) {ls : List Lexeme} {formals : List Formal} (rest : List Lexeme) → IsArguments callable ls formals → length ls < level
+  arguments_read : (callable : CallableKind) {ls : List Lexeme} {formals : List FormalParam} (rest : List Lexeme) → IsArguments callable ls formals → length ls < level
       → Shut (is_sign sign.LeftParen) rest → Reads level nested (arguments_form callable) (ls ++ rest) formals rest
   unfolding arguments_form
   arguments_read callable rest sigs.IsArguments.absent small shut = reads-other shut reads-give

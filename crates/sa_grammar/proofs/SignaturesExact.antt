@@ -1,11 +1,11 @@
 -- Formals and signatures are read exactly.
 use Rattle.std.proofs.Common.{ℕ, ◌<◌, List, [], ◌++◌, length, arith}
-use Rattle.sa_tree.specs.declared.class.Formal.{Formal}
-use Rattle.sa_parse_expr.specs.declared.types.CallableKind.{CallableKind}
-use Rattle.sa_parse_expr.specs.Lexemes.{Lexeme}
-use Rattle.sa_parse_expr.specs.Grammar.{nested_to}
-use Rattle.sa_parse.specs.Signatures.{IsFormals, IsSig}
-use Rattle.sa_parse.specs.SignatureForms.{formals_form, sig_form}
+use Rattle.sa_ast.specs.declared.class.FormalParam.{FormalParam}
+use Rattle.sa_parser_expr.specs.declared.types.CallableKind.{CallableKind}
+use Rattle.sa_parser_expr.specs.Lexemes.{Lexeme}
+use Rattle.sa_parser_expr.specs.Grammar.{nested_to}
+use Rattle.sa_parser.specs.Signatures.{IsFormals, IsSig}
+use Rattle.sa_parser.specs.SignatureForms.{formals_form, sig_form}
 use Rattle.sa_grammar.specs.Law.{OneListOfFormals, ListsOfFormalsAreRead, OneSig, SigsAreRead}
 use Rattle.sa_grammar.proofs.Parts.{Signature}
 use Rattle.sa_grammar.proofs.Sound.{IsSound}
@@ -17,7 +17,7 @@ use Rattle.sa_grammar.proofs.Nesting.{all_sound, all_complete}
 formals_sound : (callable : CallableKind) (n : ℕ) → IsSound n (nested_to n) (IsFormals callable) (formals_form callable)
 formals_sound callable n = sound_formals n (nested_to n) (all_sound n) callable
 
-formals_reads : (callable : CallableKind) (n : ℕ) (ls : List Lexeme) (all : List Formal) → IsFormals callable ls all → length ls < n
+formals_reads : (callable : CallableKind) (n : ℕ) (ls : List Lexeme) (all : List FormalParam) → IsFormals callable ls all → length ls < n
     → Reads n (nested_to n) (formals_form callable) (ls ++ []) all []
 formals_reads callable n ls all h small = formals_read n (nested_to n) (all_complete n) callable [] h small (record { brace = tt; colon = tt }) tt
 

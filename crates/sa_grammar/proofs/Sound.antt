@@ -1,19 +1,19 @@
 -- Sound forms: what is read is spelled, what is refused is so behind lexemes that begin a tree, and of the lexemes behind those that
 -- are taken a form sees the first one alone. A lemma for each way to make forms.
 use Rattle.std.proofs.Common.{◌≡◌, ℕ, zero, suc, ◌+◌, ◌≤◌, Bool, true, false, cond, List, [], ◌∷◌, ◌++◌, length, refl, sym, ap, subst, ◌∙◌, append_assoc, append-nil, arith, length-append}
-use Rattle.sa_lex.specs.declared.token.TokenKind.TheVariants as token
-use Rattle.sa_lex.specs.declared.sign.Sign.{Sign}
-use Rattle.sa_lex.specs.declared.sign.Sign.TheVariants as sign
-use Rattle.sa_lex.specs.declared.word.Word.{Word}
-use Rattle.sa_tree.specs.declared.pos.Pos.{Pos}
-use Rattle.sa_parse_expr.specs.Lexemes.{Lexeme, IsSign, IsWord}
-use Rattle.sa_parse_expr.specs.Readings.{Spelling, Begins, Reading, Read, Refused}
-use Rattle.sa_parse_expr.specs.Tests.{is_sign}
-use Rattle.sa_parse_expr.specs.Forms.{Form, give, refuse, shift, either, follow, separated, repeat, placed, list, make, until, until_word, opens}
-use Rattle.sa_parse_expr.specs.Forms.{Reader, behind, with_read, shifted, chosen, place_of, listed, repeated, run, Nested, Tree}
-use Rattle.sa_parse_expr.proofs.Tested.{sign_stands, word_stands, lexeme, a_sign, a_word}
-use Rattle.sa_parse_expr.proofs.Shifts.{Shut, Meets, shifted_met, shifted_shut, chosen_met, chosen_shut}
-use Rattle.sa_parse_expr.proofs.Shorter.{behind_one, NoLonger}
+use Rattle.sa_lexer.specs.declared.token.TokenKind.TheVariants as token
+use Rattle.sa_lexer.specs.declared.sign.Sign.{Sign}
+use Rattle.sa_lexer.specs.declared.sign.Sign.TheVariants as sign
+use Rattle.sa_lexer.specs.declared.word.Word.{Word}
+use Rattle.sa_ast.specs.declared.pos.Pos.{Pos}
+use Rattle.sa_parser_expr.specs.Lexemes.{Lexeme, IsSign, IsWord}
+use Rattle.sa_parser_expr.specs.Readings.{Spelling, Begins, Reading, Read, Refused}
+use Rattle.sa_parser_expr.specs.Tests.{is_sign}
+use Rattle.sa_parser_expr.specs.Forms.{Form, give, refuse, shift, either, follow, separated, repeat, placed, list, make, until, until_word, opens}
+use Rattle.sa_parser_expr.specs.Forms.{Reader, following, with_read, shifted, chosen, pos_of, listed, repeated, run, Nested, Ast}
+use Rattle.sa_parser_expr.proofs.Tested.{sign_stands, word_stands, lexeme, a_sign, a_word}
+use Rattle.sa_parser_expr.proofs.Shifts.{Shut, Meets, shifted_met, shifted_shut, chosen_met, chosen_shut}
+use Rattle.sa_parser_expr.proofs.Shorter.{behind_one, NoLonger}
 
 -- another list that may stand behind what was taken: it is empty, or begins with the same lexeme
 pub data Agrees : List Lexeme → List Lexeme → Type 0 where
@@ -72,14 +72,14 @@ module _ {A B : Type 0} (P : Spelling A) (R : Spelling B) (r : Reader A) (go : A
     (sound : Sound P r) (inside : (ls : List Lexeme) (a : A) → P ls a → Sound (After ls R) (go a)) where
   after_read : (ls : List Lexeme) (a : A) (mid : List Lexeme) → Took P r ls a mid → (v : Reading B) (front : List Lexeme) → P front a → ls ≡ front ++ mid
       → ((other : List Lexeme) → Agrees mid other → r (front ++ other) ≡ Read a other)
-      → Answers (After front R) (go a) mid v → Answers R (λ xs. behind go (r xs)) ls v
+      → Answers (After front R) (go a) mid v → Answers R (λ xs. following go (r xs)) ls v
   after_read ls a mid t (Read b rest) front spelled parts local g = record {
     front = front ++ g.front;
     parts = parts ∙ ap (λ xs. front ++ xs) g.parts ∙ sym (append_assoc front g.front rest);
     spelled = g.spelled;
     local = λ other agree.
         let seen : Agrees mid (g.front ++ other) = subst (λ xs. Agrees xs (g.front ++ other)) (sym g.parts) (agree_behind g.front agree) in
-        ap (λ xs. behind go (r xs)) (append_assoc front g.front other) ∙ ap (behind go) (local (g.front ++ other) seen) ∙ g.local other agree;
+        ap (λ xs. following go (r xs)) (append_assoc front g.front other) ∙ ap (following go) (local (g.front ++ other) seen) ∙ g.local other agree;
   }
   after_read ls a mid t (Refused rest) front spelled parts local g = record {
     front = front ++ g.front;
@@ -91,7 +91,7 @@ module _ {A B : Type 0} (P : Spelling A) (R : Spelling B) (r : Reader A) (go : A
     };
     local = λ other agree.
         let seen : Agrees mid (g.front ++ other) = subst (λ xs. Agrees xs (g.front ++ other)) (sym g.parts) (agree_behind g.front agree) in
-        ap (λ xs. behind go (r xs)) (append_assoc front g.front other) ∙ ap (behind go) (local (g.front ++ other) seen) ∙ g.local other agree;
+        ap (λ xs. following go (r xs)) (append_assoc front g.front other) ∙ ap (following go) (local (g.front ++ other) seen) ∙ g.local other agree;
   }
 
   -- what completes the first one, and what stands behind it
@@ -104,17 +104,17 @@ module _ {A B : Type 0} (P : Spelling A) (R : Spelling B) (r : Reader A) (go : A
         spelled = subst (λ xs. R xs later.tree) (append_assoc front h.more later.more) later.spelled;
       }
 
-  behind_answers : (ls : List Lexeme) (v : Reading A) → Answers P r ls v → Answers R (λ xs. behind go (r xs)) ls (behind go v)
+  behind_answers : (ls : List Lexeme) (v : Reading A) → Answers P r ls v → Answers R (λ xs. following go (r xs)) ls (following go v)
   behind_answers ls (Read a mid) t = after_read ls a mid t (go a mid) t.front t.spelled t.parts t.local ((inside t.front a t.spelled).answers mid)
   behind_answers ls (Refused rest) s = record {
     front = s.front;
     parts = s.parts;
     begins = completed s.front s.begins;
-    local = λ other agree. ap (behind go) (s.local other agree);
+    local = λ other agree. ap (following go) (s.local other agree);
   }
 
-  sound-behind : Sound R (λ xs. behind go (r xs))
-  sound-behind = record {
+  sound-following : Sound R (λ xs. following go (r xs))
+  sound-following = record {
     begins = completed [] sound.begins;
     answers = λ ls. behind_answers ls (r ls) (sound.answers ls);
   }
@@ -165,17 +165,17 @@ module _ {A : Type 0} (R : Spelling A) (test : Lexeme → Bool) (go : Lexeme →
     front = t.front;
     parts = t.parts;
     spelled = t.spelled;
-    local = λ behind agree.
-        let still : Shut test (t.front ++ behind) = shut_agrees test (agree_behind t.front agree) (subst (Shut test) t.parts shut) in
-        shifted_shut test go other (t.front ++ behind) still ∙ t.local behind agree;
+    local = λ following agree.
+        let still : Shut test (t.front ++ following) = shut_agrees test (agree_behind t.front agree) (subst (Shut test) t.parts shut) in
+        shifted_shut test go other (t.front ++ following) still ∙ t.local following agree;
   }
   without_answers ls shut (Refused rest) s = record {
     front = s.front;
     parts = s.parts;
     begins = s.begins;
-    local = λ behind agree.
-        let still : Shut test (s.front ++ behind) = shut_agrees test (agree_behind s.front agree) (subst (Shut test) s.parts shut) in
-        shifted_shut test go other (s.front ++ behind) still ∙ s.local behind agree;
+    local = λ following agree.
+        let still : Shut test (s.front ++ following) = shut_agrees test (agree_behind s.front agree) (subst (Shut test) s.parts shut) in
+        shifted_shut test go other (s.front ++ following) still ∙ s.local following agree;
   }
 
   met_answers : (l : Lexeme) (ls : List Lexeme) → test l ≡ true → (v : Reading A) → Answers (After (l ∷ []) R) (go l) ls v → Answers R (shifted test go other) (l ∷ ls) v
@@ -183,13 +183,13 @@ module _ {A : Type 0} (R : Spelling A) (test : Lexeme → Bool) (go : Lexeme →
     front = l ∷ t.front;
     parts = ap (λ xs. l ∷ xs) t.parts;
     spelled = t.spelled;
-    local = λ behind agree. shifted_met test go other l (t.front ++ behind) is ∙ t.local behind agree;
+    local = λ following agree. shifted_met test go other l (t.front ++ following) is ∙ t.local following agree;
   }
   met_answers l ls is (Refused rest) s = record {
     front = l ∷ s.front;
     parts = ap (λ xs. l ∷ xs) s.parts;
     begins = record { more = s.begins.more; tree = s.begins.tree; spelled = s.begins.spelled };
-    local = λ behind agree. shifted_met test go other l (s.front ++ behind) is ∙ s.local behind agree;
+    local = λ following agree. shifted_met test go other l (s.front ++ following) is ∙ s.local following agree;
   }
 
   shifted_answers : (l : Lexeme) (ls : List Lexeme) (is : Bool) → test l ≡ is → Answers R (shifted test go other) (l ∷ ls) (cond is (go l ls) (other (l ∷ ls)))
@@ -217,7 +217,7 @@ module _ {A : Type 0} (test : Lexeme → Bool) (P : Spelling A) (item : Reader A
   sound-listed : (n : ℕ) → Sound (Separated test P) (listed n test item)
   sound-listed zero = sound-refused (Separated test P) (record { more = sound.begins.more; tree = sound.begins.tree ∷ []; spelled = last sound.begins.spelled })
   sound-listed (suc n) =
-      sound-behind P (Separated test P) item (behind_one n test item) sound
+      sound-following P (Separated test P) item (behind_one n test item) sound
       (λ ls a one. sound-shifted (After ls (Separated test P)) test (λ _ ms. with_read (λ others. a ∷ others) (listed n test item ms)) (λ ms. Read (a ∷ []) ms)
       (λ l is. sound-with (Separated test P) (After (l ∷ []) (After ls (Separated test P))) (listed n test item) (λ others. a ∷ others) (sound-listed n)
       (λ ms others rest. more one is rest))
@@ -228,26 +228,26 @@ module _ {A : Type 0} (test : Lexeme → Bool) (P : Spelling A) (item : Reader A
 module _ {A : Type 0} (R : Spelling A) (test : Lexeme → Bool) (one other : Reader A) (first : Sound R one) (second : Sound R other)
     (takes : (l : Lexeme) (ls : List Lexeme) → test l ≡ true → NoLonger ls (one (l ∷ ls))) where
   -- what was taken begins with the lexeme that meets the test
-  still_met : (l : Lexeme) (ls front rest behind : List Lexeme) → l ∷ ls ≡ front ++ rest → length rest ≤ length ls → Meets test (front ++ rest) → Meets test (front ++ behind)
-  still_met l ls [] rest behind parts le is = let size : suc (length ls) ≡ length rest = ap length parts in absurd (omega arith)
-  still_met l ls (f ∷ front) rest behind parts le is = is
+  still_met : (l : Lexeme) (ls front rest following : List Lexeme) → l ∷ ls ≡ front ++ rest → length rest ≤ length ls → Meets test (front ++ rest) → Meets test (front ++ following)
+  still_met l ls [] rest following parts le is = let size : suc (length ls) ≡ length rest = ap length parts in absurd (omega arith)
+  still_met l ls (f ∷ front) rest following parts le is = is
 
   one_answers : (l : Lexeme) (ls : List Lexeme) → test l ≡ true → (v : Reading A) → NoLonger ls v → Answers R one (l ∷ ls) v → Answers R (chosen test one other) (l ∷ ls) v
   one_answers l ls is (Read a rest) le t = record {
     front = t.front;
     parts = t.parts;
     spelled = t.spelled;
-    local = λ behind agree.
-        let still : Meets test (t.front ++ behind) = still_met l ls t.front rest behind t.parts le (subst (Meets test) t.parts is) in
-        chosen_met test one other (t.front ++ behind) still ∙ t.local behind agree;
+    local = λ following agree.
+        let still : Meets test (t.front ++ following) = still_met l ls t.front rest following t.parts le (subst (Meets test) t.parts is) in
+        chosen_met test one other (t.front ++ following) still ∙ t.local following agree;
   }
   one_answers l ls is (Refused rest) le s = record {
     front = s.front;
     parts = s.parts;
     begins = s.begins;
-    local = λ behind agree.
-        let still : Meets test (s.front ++ behind) = still_met l ls s.front rest behind s.parts le (subst (Meets test) s.parts is) in
-        chosen_met test one other (s.front ++ behind) still ∙ s.local behind agree;
+    local = λ following agree.
+        let still : Meets test (s.front ++ following) = still_met l ls s.front rest following s.parts le (subst (Meets test) s.parts is) in
+        chosen_met test one other (s.front ++ following) still ∙ s.local following agree;
   }
 
   other_answers : (ls : List Lexeme) → Shut test ls → (v : Reading A) → Answers R other ls v → Answers R (chosen test one other) ls v
@@ -255,17 +255,17 @@ module _ {A : Type 0} (R : Spelling A) (test : Lexeme → Bool) (one other : Rea
     front = t.front;
     parts = t.parts;
     spelled = t.spelled;
-    local = λ behind agree.
-        let still : Shut test (t.front ++ behind) = shut_agrees test (agree_behind t.front agree) (subst (Shut test) t.parts shut) in
-        chosen_shut test one other (t.front ++ behind) still ∙ t.local behind agree;
+    local = λ following agree.
+        let still : Shut test (t.front ++ following) = shut_agrees test (agree_behind t.front agree) (subst (Shut test) t.parts shut) in
+        chosen_shut test one other (t.front ++ following) still ∙ t.local following agree;
   }
   other_answers ls shut (Refused rest) s = record {
     front = s.front;
     parts = s.parts;
     begins = s.begins;
-    local = λ behind agree.
-        let still : Shut test (s.front ++ behind) = shut_agrees test (agree_behind s.front agree) (subst (Shut test) s.parts shut) in
-        chosen_shut test one other (s.front ++ behind) still ∙ s.local behind agree;
+    local = λ following agree.
+        let still : Shut test (s.front ++ following) = shut_agrees test (agree_behind s.front agree) (subst (Shut test) s.parts shut) in
+        chosen_shut test one other (s.front ++ following) still ∙ s.local following agree;
   }
 
   either_answers : (l : Lexeme) (ls : List Lexeme) (is : Bool) → test l ≡ is → Answers R (chosen test one other) (l ∷ ls) (cond is (one (l ∷ ls)) (other (l ∷ ls)))
@@ -286,35 +286,35 @@ module _ {A : Type 0} (R : Spelling A) (test : Lexeme → Bool) (step : A → Le
   sound-repeated : (n : ℕ) (ls : List Lexeme) (a : A) → R ls a → Sound (After ls R) (repeated n test step a)
   sound-repeated zero ls a h = sound-refused (After ls R) (record { more = []; tree = a; spelled = rw append-nil h })
   sound-repeated (suc n) ls a h =
-      sound-shifted (After ls R) test (λ l more. behind (repeated n test step) (step a l more)) (λ more. Read a more)
-      (λ l is. sound-behind (After (l ∷ []) (After ls R)) (After (l ∷ []) (After ls R)) (step a l) (repeated n test step) (goes ls a h l is)
+      sound-shifted (After ls R) test (λ l more. following (repeated n test step) (step a l more)) (λ more. Read a more)
+      (λ l is. sound-following (After (l ∷ []) (After ls R)) (After (l ∷ []) (After ls R)) (step a l) (repeated n test step) (goes ls a h l is)
       (λ ms b k. sound-as (sound-repeated n (ls ++ l ∷ ms) b k) (λ xs c j. subst (λ zs. R zs c) (append_assoc ls (l ∷ ms) xs) j)))
       (sound-read (After ls R) a (rw append-nil h))
 
 -- ---- with the position where it begins
 
 pub data Placed {A : Type 0} (P : Spelling A) : List Lexeme → Pos × A → Type 0 where
-  stands : {l : Lexeme} {ls : List Lexeme} {a : A} → P (l ∷ ls) a → Placed P (l ∷ ls) (l.pos, a)
+  occurs : {l : Lexeme} {ls : List Lexeme} {a : A} → P (l ∷ ls) a → Placed P (l ∷ ls) (l.pos, a)
 
 module _ {A : Type 0} (P : Spelling A) (some : (a : A) → P [] a → ⊥) where
-  pub place_of_front : (front rest : List Lexeme) (a : A) → P front a → place_of (front ++ rest) ≡ place_of front
+  pub place_of_front : (front rest : List Lexeme) (a : A) → P front a → pos_of (front ++ rest) ≡ pos_of front
   place_of_front [] rest a h = absurd (some a h)
   place_of_front (l ∷ front) rest a h = refl
 
-  pub placed_spelled : (ls : List Lexeme) (a : A) → P ls a → Placed P ls (place_of ls, a)
+  pub placed_spelled : (ls : List Lexeme) (a : A) → P ls a → Placed P ls (pos_of ls, a)
   placed_spelled [] a h = absurd (some a h)
-  placed_spelled (l ∷ ls) a h = stands h
+  placed_spelled (l ∷ ls) a h = occurs h
 
   placed_answers : (r : Reader A) (ls : List Lexeme) (v : Reading A) → Answers P r ls v
-      → Answers (Placed P) (λ xs. behind (λ a more. Read (place_of xs, a) more) (r xs)) ls (behind (λ a more. Read (place_of ls, a) more) v)
+      → Answers (Placed P) (λ xs. following (λ a more. Read (pos_of xs, a) more) (r xs)) ls (following (λ a more. Read (pos_of ls, a) more) v)
   placed_answers r ls (Read a rest) t =
-      let place : place_of ls ≡ place_of t.front = ap place_of t.parts ∙ place_of_front t.front rest a t.spelled in
+      let place : pos_of ls ≡ pos_of t.front = ap pos_of t.parts ∙ place_of_front t.front rest a t.spelled in
       record {
         front = t.front;
         parts = t.parts;
         spelled = subst (λ p. Placed P t.front (p, a)) (sym place) (placed_spelled t.front a t.spelled);
         local = λ other agree.
-            ap (behind (λ b more. Read (place_of (t.front ++ other), b) more)) (t.local other agree)
+            ap (following (λ b more. Read (pos_of (t.front ++ other), b) more)) (t.local other agree)
             ∙ ap (λ p. Read (p, a) other) (place_of_front t.front other a t.spelled ∙ sym place);
       }
   placed_answers r ls (Refused rest) s = record {
@@ -322,17 +322,17 @@ module _ {A : Type 0} (P : Spelling A) (some : (a : A) → P [] a → ⊥) where
     parts = s.parts;
     begins = record {
       more = s.begins.more;
-      tree = (place_of (s.front ++ s.begins.more), s.begins.tree);
+      tree = (pos_of (s.front ++ s.begins.more), s.begins.tree);
       spelled = placed_spelled (s.front ++ s.begins.more) s.begins.tree s.begins.spelled;
     };
-    local = λ other agree. ap (behind (λ b more. Read (place_of (s.front ++ other), b) more)) (s.local other agree);
+    local = λ other agree. ap (following (λ b more. Read (pos_of (s.front ++ other), b) more)) (s.local other agree);
   }
 
-  sound-with_place : (r : Reader A) → Sound P r → Sound (Placed P) (λ xs. behind (λ a more. Read (place_of xs, a) more) (r xs))
+  sound-with_place : (r : Reader A) → Sound P r → Sound (Placed P) (λ xs. following (λ a more. Read (pos_of xs, a) more) (r xs))
   sound-with_place r sound = record {
     begins = record {
       more = sound.begins.more;
-      tree = (place_of sound.begins.more, sound.begins.tree);
+      tree = (pos_of sound.begins.more, sound.begins.tree);
       spelled = placed_spelled sound.begins.more sound.begins.tree sound.begins.spelled;
     };
     answers = λ ls. placed_answers r ls (r ls) (sound.answers ls);
@@ -393,12 +393,12 @@ module _ {A : Type 0} (R : Spelling A) (r behind_it : Reader A) (l : Lexeme) (sa
 
 -- ---- forms
 
-module _ (level : ℕ) (nested : (n : Nested) → Reader (Tree n)) where
+module _ (level : ℕ) (nested : (n : Nested) → Reader (Ast n)) where
   -- a form is sound where its reader is
   pub record IsSound {A : Type 0} (R : Spelling A) (form : Form A) : Type 0 where
     pub reader : Sound R (run level nested form)
 
-module _ {level : ℕ} {nested : (n : Nested) → Reader (Tree n)} where
+module _ {level : ℕ} {nested : (n : Nested) → Reader (Ast n)} where
   pub sound-give : {A : Type 0} {R : Spelling A} {a : A} → R [] a → IsSound level nested R (give a)
   sound-give {R = R} {a = a} h = record { reader = sound-read R a h }
 
@@ -414,7 +414,7 @@ module _ {level : ℕ} {nested : (n : Nested) → Reader (Tree n)} where
   pub sound-follow : {A B : Type 0} {P : Spelling A} {R : Spelling B} {first : Form A} {next : A → Form B}
       → IsSound level nested P first → ((ls : List Lexeme) (a : A) → P ls a → IsSound level nested (After ls R) (next a)) → IsSound level nested R (follow first next)
   sound-follow {P = P} {R = R} {first = first} {next = next} sound inside = record {
-    reader = sound-behind P R (run level nested first) (λ a. run level nested (next a)) sound.reader (λ ls a is. (inside ls a is).reader);
+    reader = sound-following P R (run level nested first) (λ a. run level nested (next a)) sound.reader (λ ls a is. (inside ls a is).reader);
   }
 
   pub sound-separated : {A : Type 0} {P : Spelling A} {R : Spelling (List A)} {test : Lexeme → Bool} {item : Form A}

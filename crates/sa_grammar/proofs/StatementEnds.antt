@@ -1,22 +1,22 @@
 -- What statements begin with, and what goes on with them, by the kind of the next lexeme.
 use Rattle.std.proofs.Common.{◌≡◌, Bool, true, false, ◌||◌, List, [], ◌∷◌, refl, ◌∙◌}
-use Rattle.sa_lex.specs.declared.token.TokenKind.{TokenKind}
-use Rattle.sa_lex.specs.declared.token.TokenKind.TheVariants as token
-use Rattle.sa_lex.specs.declared.sign.Sign.{Sign}
-use Rattle.sa_lex.specs.declared.sign.Sign.TheVariants as sign
-use Rattle.sa_lex.specs.declared.word.Word.{Word}
-use Rattle.sa_lex.specs.declared.word.Word.TheVariants as word
-use Rattle.sa_parse_expr.specs.declared.grammar.Scope.TheVariants.{Plain}
-use Rattle.sa_parse_expr.specs.Lexemes.{Lexeme}
-use Rattle.sa_parse_expr.specs.Arounds.{outside}
-use Rattle.sa_parse_expr.specs.Tests.{is_sign_kind}
-use Rattle.sa_parse_expr.specs.Forms.{opens}
-use Rattle.sa_parse_expr.specs.TypeForms.{type_form}
-use Rattle.sa_parse_expr.specs.ExpressionForms.{first_form, items_or, result_or, class_call_form, placed_post_form, post_form, power_form, unary_form}
-use Rattle.sa_parse_expr.specs.ExpressionForms.{operation_form, product_form, sum_form, comparison_form, expr_form}
-use Rattle.sa_parse_expr.specs.StatementForms.{simple_form, stmt_form}
-use Rattle.sa_parse_expr.proofs.Tested.{lexeme}
-use Rattle.sa_parse_expr.proofs.Shifts.{Shut, Meets}
+use Rattle.sa_lexer.specs.declared.token.TokenKind.{TokenKind}
+use Rattle.sa_lexer.specs.declared.token.TokenKind.TheVariants as token
+use Rattle.sa_lexer.specs.declared.sign.Sign.{Sign}
+use Rattle.sa_lexer.specs.declared.sign.Sign.TheVariants as sign
+use Rattle.sa_lexer.specs.declared.word.Word.{Word}
+use Rattle.sa_lexer.specs.declared.word.Word.TheVariants as word
+use Rattle.sa_parser_expr.specs.declared.grammar.ConditionScope.TheVariants.{Plain}
+use Rattle.sa_parser_expr.specs.Lexemes.{Lexeme}
+use Rattle.sa_parser_expr.specs.Enclosures.{outside}
+use Rattle.sa_parser_expr.specs.Tests.{is_sign_kind}
+use Rattle.sa_parser_expr.specs.Forms.{opens}
+use Rattle.sa_parser_expr.specs.TypeForms.{type_form}
+use Rattle.sa_parser_expr.specs.ExpressionForms.{first_form, items_or, result_or, class_call_form, placed_post_form, post_form, power_form, unary_form}
+use Rattle.sa_parser_expr.specs.ExpressionForms.{operation_form, product_form, sum_form, comparison_form, expr_form}
+use Rattle.sa_parser_expr.specs.StatementForms.{simple_form, stmt_form}
+use Rattle.sa_parser_expr.proofs.Tested.{lexeme}
+use Rattle.sa_parser_expr.proofs.Shifts.{Shut, Meets}
 use Rattle.sa_grammar.proofs.ExpressionStarts.{begins_expr}
 use Rattle.sa_grammar.proofs.ExpressionEnds.{after_expr}
 

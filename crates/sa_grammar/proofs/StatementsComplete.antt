@@ -1,40 +1,40 @@
 -- The forms of statements are complete.
 use Rattle.std.proofs.Common.{◌≡◌, ℕ, suc, ◌+◌, ◌<◌, Bool, true, false, List, [], ◌∷◌, ◌++◌, length, refl, sym, ap, subst, ◌∙◌, append_assoc, append-nil, arith, length-append, Option, Some, None}
 use Rattle.std.proofs.lemmas.Bool.{or_right}
-use Rattle.sa_lex.specs.declared.token.TokenKind.{TokenKind}
-use Rattle.sa_lex.specs.declared.token.TokenKind.TheVariants as token
-use Rattle.sa_lex.specs.declared.sign.Sign.{Sign}
-use Rattle.sa_lex.specs.declared.sign.Sign.TheVariants as sign
-use Rattle.sa_lex.specs.declared.word.Word.TheVariants as word
-use Rattle.sa_tree.specs.declared.ty.Ty.{Ty}
-use Rattle.sa_tree.specs.declared.expr.Recv.TheVariants.{Implied}
-use Rattle.sa_tree.specs.declared.expr.Expr.{Expr}
-use Rattle.sa_tree.specs.declared.expr.Expr.TheVariants as exprtree
-use Rattle.sa_tree.specs.declared.stmt.Local.{Local}
-use Rattle.sa_tree.specs.declared.stmt.Arm.{Arm}
-use Rattle.sa_tree.specs.declared.stmt.CaseArm.{CaseArm}
-use Rattle.sa_tree.specs.declared.stmt.TypeArm.{TypeArm}
-use Rattle.sa_tree.specs.declared.stmt.Stmt.{Stmt}
-use Rattle.sa_tree.specs.declared.stmt.Stmt.TheVariants as tree
-use Rattle.sa_parse_expr.specs.declared.grammar.Scope.TheVariants.{Plain}
-use Rattle.sa_parse_expr.specs.Lexemes.{Lexeme, IsSign, name_of}
-use Rattle.sa_parse_expr.specs.Types.{IsType}
-use Rattle.sa_parse_expr.specs.Expressions as exprs
-use Rattle.sa_parse_expr.specs.Expressions.{IsExpr}
-use Rattle.sa_parse_expr.specs.Arounds.{outside, around_of}
-use Rattle.sa_parse_expr.specs.Readings.{Reading, Read, Refused}
-use Rattle.sa_parse_expr.specs.Tests.{is_word, is_sign, is_sign_kind, is_lower, is_lower_kind}
-use Rattle.sa_parse_expr.specs.Forms.{Form, Reader, Nested, Tree, list, opens, run, type, expr}
-use Rattle.sa_parse_expr.specs.ExpressionForms.{named_form, args_form, expr_form}
-use Rattle.sa_parse_expr.specs.StatementForms.{value_form, assigned_form, optional_value_form, name_form, typed_form, assign_form, behind_name_form, simple_form}
-use Rattle.sa_parse_expr.specs.StatementForms.{joined}
-use Rattle.sa_parse_expr.proofs.BehindNames.{with_kind, same_behind}
-use Rattle.sa_parse_expr.proofs.Tested.{sign_met, sign_stands, word_met, lower_stands, other_sign}
-use Rattle.sa_parse_expr.proofs.Shifts.{Shut, Meets}
-use Rattle.sa_parse.specs.Names as names
-use Rattle.sa_parse.specs.Names.{IsLower, IsName, IsMoreNames, IsNames}
-use Rattle.sa_parse.specs.Statements as stmt
-use Rattle.sa_parse.specs.Statements.{IsValue, IsValues, IsAssigned, IsOptionalExpr, IsSimple, IsLeave, IsBody, IsStmts, IsOptionalStmt, IsStmt, IsArms, IsArm, IsEnding, IsElse, IsCaseArms, IsCaseArm, IsBranches, IsBranch}
+use Rattle.sa_lexer.specs.declared.token.TokenKind.{TokenKind}
+use Rattle.sa_lexer.specs.declared.token.TokenKind.TheVariants as token
+use Rattle.sa_lexer.specs.declared.sign.Sign.{Sign}
+use Rattle.sa_lexer.specs.declared.sign.Sign.TheVariants as sign
+use Rattle.sa_lexer.specs.declared.word.Word.TheVariants as word
+use Rattle.sa_ast.specs.declared.ty.Ty.{Ty}
+use Rattle.sa_ast.specs.declared.expr.ExprReceiver.TheVariants.{Implied}
+use Rattle.sa_ast.specs.declared.expr.Expr.{Expr}
+use Rattle.sa_ast.specs.declared.expr.Expr.TheVariants as exprtree
+use Rattle.sa_ast.specs.declared.stmt.Local.{Local}
+use Rattle.sa_ast.specs.declared.stmt.BranchArm.{BranchArm}
+use Rattle.sa_ast.specs.declared.stmt.CaseArm.{CaseArm}
+use Rattle.sa_ast.specs.declared.stmt.TypeArm.{TypeArm}
+use Rattle.sa_ast.specs.declared.stmt.Stmt.{Stmt}
+use Rattle.sa_ast.specs.declared.stmt.Stmt.TheVariants as tree
+use Rattle.sa_parser_expr.specs.declared.grammar.ConditionScope.TheVariants.{Plain}
+use Rattle.sa_parser_expr.specs.Lexemes.{Lexeme, IsSign, name_of}
+use Rattle.sa_parser_expr.specs.Types.{IsType}
+use Rattle.sa_parser_expr.specs.Expressions as exprs
+use Rattle.sa_parser_expr.specs.Expressions.{IsExpr}
+use Rattle.sa_parser_expr.specs.Enclosures.{outside, enclosure_of}
+use Rattle.sa_parser_expr.specs.Readings.{Reading, Read, Refused}
+use Rattle.sa_parser_expr.specs.Tests.{is_word, is_sign, is_sign_kind, is_lower, is_lower_kind}
+use Rattle.sa_parser_expr.specs.Forms.{Form, Reader, Nested, Ast, list, opens, run, type, expr}
+use Rattle.sa_parser_expr.specs.ExpressionForms.{named_form, args_form, expr_form}
+use Rattle.sa_parser_expr.specs.StatementForms.{value_form, assigned_form, optional_value_form, name_form, typed_form, assign_form, after_name_form, simple_form}
+use Rattle.sa_parser_expr.specs.StatementForms.{joined}
+use Rattle.sa_parser_expr.proofs.BehindNames.{with_kind, same_behind}
+use Rattle.sa_parser_expr.proofs.Tested.{sign_met, sign_stands, word_met, lower_stands, other_sign}
+use Rattle.sa_parser_expr.proofs.Shifts.{Shut, Meets}
+use Rattle.sa_parser.specs.Names as names
+use Rattle.sa_parser.specs.Names.{IsLower, IsName, IsMoreNames, IsNames}
+use Rattle.sa_parser.specs.Statements as stmt
+use Rattle.sa_parser.specs.Statements.{IsValue, IsValues, IsAssigned, IsOptionalExpr, IsSimple, IsLeave, IsBody, IsStmts, IsOptionalStmt, IsStmt, IsArms, IsArm, IsEnding, IsElse, IsCaseArms, IsCaseArm, IsBranches, IsBranch}
 use Rattle.sa_grammar.proofs.Sound.{Separated, Listed, last, more}
 use Rattle.sa_grammar.proofs.Complete.{Reads, reads-give, reads-met, reads-other, reads-first, reads-second, reads-follow, reads-make, reads-joined, reads-list}
 use Rattle.sa_grammar.proofs.TypeForms.{EndsType, sign_ends}
@@ -48,10 +48,10 @@ use Rattle.sa_grammar.proofs.StatementEnds.{begins_stmt, kind_begins_stmt, after
 
 -- ---- names, values and lists
 
-value_expr : {ls : List Lexeme} {e : Expr} → IsValue ls e → IsExpr Plain (around_of outside) ls e
+value_expr : {ls : List Lexeme} {e : Expr} → IsValue ls e → IsExpr Plain (enclosure_of outside) ls e
 value_expr (exprs.in_value h) = h
 
-pub values_separated : {ls : List Lexeme} {es : List Expr} → IsValues ls es → Listed (IsExpr Plain (around_of outside)) ls es
+pub values_separated : {ls : List Lexeme} {es : List Expr} → IsValues ls es → Listed (IsExpr Plain (enclosure_of outside)) ls es
 values_separated (stmt.last_value one) = last (value_expr one)
 values_separated (stmt.more_values one comma others) = more (value_expr one) (sign_met comma) (values_separated others)
 
@@ -62,7 +62,7 @@ pub listed_names : {l : Lexeme} {ls : List Lexeme} {others : List Local} → IsL
 listed_names k names.no_more_names = last (names.one_name k)
 listed_names k (names.more_names is j h) = more (names.one_name k) (sign_met is) (listed_names j h)
 
-pub arms_listed : {ls : List Lexeme} {arms : List Arm} → IsArms ls arms → Separated (is_word word.Elsif) IsArm ls arms
+pub arms_listed : {ls : List Lexeme} {arms : List BranchArm} → IsArms ls arms → Separated (is_word word.Elsif) IsArm ls arms
 arms_listed (stmt.last_arm one) = last one
 arms_listed (stmt.more_arms one is others) = more one (word_met is) (arms_listed others)
 
@@ -150,47 +150,47 @@ left_length : {A : Type 0} → Reading A → ℕ
 left_length (Read tree rest) = length rest
 left_length (Refused rest) = length rest
 
-module _ (level : ℕ) (nested : (n : Nested) → Reader (Tree n)) where
+module _ (level : ℕ) (nested : (n : Nested) → Reader (Ast n)) where
   reads-at : {A : Type 0} {form : Form A} {ls ms rest : List Lexeme} {a : A} → ls ≡ ms → Reads level nested form ms a rest → Reads level nested form ls a rest
   reads-at {form = form} e r = record { is = ap (run level nested form) e ∙ r.is }
 
   -- a name alone is the expression where a sign of a declaration stands behind it
   abbrev Stops : Lexeme → Sign → Type 0
   Stops l s = (c : Lexeme) (ls : List Lexeme)
-      → run level nested (behind_name_form l) (with_kind (token.Sign s) c ∷ ls) ≡ Read (exprtree.Call Implied l.bytes [] l.pos) (with_kind (token.Sign s) c ∷ ls)
+      → run level nested (after_name_form l) (with_kind (token.Sign s) c ∷ ls) ≡ Read (exprtree.Call Implied l.bytes [] l.pos) (with_kind (token.Sign s) c ∷ ls)
 
   comma_stops : (l : Lexeme) → Stops l sign.Comma
-  unfolding behind_name_form named_form args_form
+  unfolding after_name_form named_form args_form
   comma_stops l c ls = refl
 
   colon_stops : (l : Lexeme) → Stops l sign.Colon
-  unfolding behind_name_form named_form args_form
+  unfolding after_name_form named_form args_form
   colon_stops l c ls = refl
 
   declare_stops : (l : Lexeme) → Stops l sign.Declare
-  unfolding behind_name_form named_form args_form
+  unfolding after_name_form named_form args_form
   declare_stops l c ls = refl
 
   -- so no such sign follows a name that begins a longer expression
-  next_shut : (l : Lexeme) (s : Sign) → Stops l s → (c : Lexeme) (ls tail : List Lexeme) (a : Expr) → Reads level nested (behind_name_form l) ((c ∷ ls) ++ tail) a tail
+  next_shut : (l : Lexeme) (s : Sign) → Stops l s → (c : Lexeme) (ls tail : List Lexeme) (a : Expr) → Reads level nested (after_name_form l) ((c ∷ ls) ++ tail) a tail
       → (b : Bool) → is_sign s c ≡ b → b ≡ false
   unfolding left_length
   next_shut l s stops c ls tail a r false e = refl
   next_shut l s stops c ls tail a r true e =
       let kind = (sign_stands s c e).kind in
-      let alone : run level nested (behind_name_form l) (c ∷ (ls ++ tail)) ≡ Read (exprtree.Call Implied l.bytes [] l.pos) (with_kind (token.Sign s) c ∷ (ls ++ tail))
-      = ap (λ kind. run level nested (behind_name_form l) (with_kind kind c ∷ (ls ++ tail))) kind ∙ stops c (ls ++ tail) in
+      let alone : run level nested (after_name_form l) (c ∷ (ls ++ tail)) ≡ Read (exprtree.Call Implied l.bytes [] l.pos) (with_kind (token.Sign s) c ∷ (ls ++ tail))
+      = ap (λ kind. run level nested (after_name_form l) (with_kind kind c ∷ (ls ++ tail))) kind ∙ stops c (ls ++ tail) in
       let size : suc (length (ls ++ tail)) ≡ length tail = ap left_length (sym alone ∙ r.is) in
       let sum : length (ls ++ tail) ≡ length ls + length tail = length-append ls tail in
       absurd (omega arith)
 
-  behind_shut : (l : Lexeme) (s : Sign) → Stops l s → (ls tail : List Lexeme) (a : Expr) → Reads level nested (behind_name_form l) (ls ++ tail) a tail
+  behind_shut : (l : Lexeme) (s : Sign) → Stops l s → (ls tail : List Lexeme) (a : Expr) → Reads level nested (after_name_form l) (ls ++ tail) a tail
       → Shut (is_sign s) tail → Shut (is_sign s) (ls ++ tail)
   behind_shut l s stops [] tail a r shut = shut
   behind_shut l s stops (c ∷ ls) tail a r shut = next_shut l s stops c ls tail a r (is_sign s c) refl
 
-module _ (level : ℕ) (nested : (n : Nested) → Reader (Tree n))
-    (inside : (n : Nested) (ls : List Lexeme) (t : Tree n) (rest : List Lexeme) → Spells n ls t → length ls < level → EndsOf n rest → nested n (ls ++ rest) ≡ Read t rest) where
+module _ (level : ℕ) (nested : (n : Nested) → Reader (Ast n))
+    (inside : (n : Nested) (ls : List Lexeme) (t : Ast n) (rest : List Lexeme) → Spells n ls t → length ls < level → EndsOf n rest → nested n (ls ++ rest) ≡ Read t rest) where
   pub value_read : (ls : List Lexeme) (e : Expr) (rest : List Lexeme) → IsValue ls e → length ls < level → Ends after_expr rest → Reads level nested value_form (ls ++ rest) e rest
   value_read ls e rest h small ends = nest_read level nested inside (expr Plain outside) ls e rest (value_expr h) small ends
 
@@ -250,21 +250,21 @@ module _ (level : ℕ) (nested : (n : Nested) → Reader (Tree n))
   from_value l ls a tail h small ends names_end r false e =
       reads-other e (reads-follow (expr_read level nested inside Plain outside (l ∷ ls) a tail (value_expr h) small ends) r)
   from_value l ls a tail h small ends names_end r true e =
-      let behind : Reads level nested (behind_name_form l) (ls ++ tail) a tail = record {
+      let following : Reads level nested (after_name_form l) (ls ++ tail) a tail = record {
         is = sym (same_behind level nested l (lower_stands l e) (ls ++ tail)) ∙ (expr_read level nested inside Plain outside (l ∷ ls) a tail (value_expr h) small ends).is;
       } in
       reads-met e
-      (reads-other (behind_shut level nested l sign.Comma (comma_stops level nested l) ls tail a behind (ends_left (is_sign_kind sign.Comma) (is_sign_kind sign.Declare) tail names_end))
-      (reads-other (behind_shut level nested l sign.Colon (colon_stops level nested l) ls tail a behind (expr_shuts_colon tail ends))
-      (reads-other (behind_shut level nested l sign.Declare (declare_stops level nested l) ls tail a behind (ends_right (is_sign_kind sign.Comma) (is_sign_kind sign.Declare) tail names_end))
-      (reads-follow behind r))))
+      (reads-other (behind_shut level nested l sign.Comma (comma_stops level nested l) ls tail a following (ends_left (is_sign_kind sign.Comma) (is_sign_kind sign.Declare) tail names_end))
+      (reads-other (behind_shut level nested l sign.Colon (colon_stops level nested l) ls tail a following (expr_shuts_colon tail ends))
+      (reads-other (behind_shut level nested l sign.Declare (declare_stops level nested l) ls tail a following (ends_right (is_sign_kind sign.Comma) (is_sign_kind sign.Declare) tail names_end))
+      (reads-follow following r))))
 
   any_value : (ls : List Lexeme) (a : Expr) (tail : List Lexeme) {s : Stmt} {rest : List Lexeme} → IsValue ls a → Meets (λ l. begins_expr Plain l.kind) ls → length ls < suc level
       → Ends after_expr tail → Ends after_names tail → Reads level nested (assign_form a) tail s rest → Reads level nested simple_form (ls ++ tail) s rest
   any_value [] a tail h starts small ends names_end r = absurd starts
   any_value (l ∷ ls) a tail h starts small ends names_end r = from_value l ls a tail h small ends names_end r (is_lower l) refl
 
-  alone_read : (a : Expr) (rest : List Lexeme) → Ends (is_sign_kind sign.Assign) rest → Reads level nested (assign_form a) rest (tree.Do a) rest
+  alone_read : (a : Expr) (rest : List Lexeme) → Ends (is_sign_kind sign.Assign) rest → Reads level nested (assign_form a) rest (tree.ExprStmt a) rest
   unfolding assign_form
   alone_read a rest shut = reads-other shut reads-give
 

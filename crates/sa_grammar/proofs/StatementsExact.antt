@@ -1,11 +1,11 @@
 -- Statements are read exactly, and lists of them.
 use Rattle.std.proofs.Common.{ℕ, ◌<◌, List, [], ◌++◌, length, arith}
-use Rattle.sa_tree.specs.declared.stmt.Stmt.{Stmt}
-use Rattle.sa_parse_expr.specs.Lexemes.{Lexeme}
-use Rattle.sa_parse_expr.specs.Forms.{nest, stmts}
-use Rattle.sa_parse_expr.specs.StatementForms.{stmt_form}
-use Rattle.sa_parse_expr.specs.Grammar.{nested_to}
-use Rattle.sa_parse.specs.Statements.{IsStmt, IsStmts}
+use Rattle.sa_ast.specs.declared.stmt.Stmt.{Stmt}
+use Rattle.sa_parser_expr.specs.Lexemes.{Lexeme}
+use Rattle.sa_parser_expr.specs.Forms.{nest, stmts}
+use Rattle.sa_parser_expr.specs.StatementForms.{stmt_form}
+use Rattle.sa_parser_expr.specs.Grammar.{nested_to}
+use Rattle.sa_parser.specs.Statements.{IsStmt, IsStmts}
 use Rattle.sa_grammar.specs.Law.{OneStmt, StmtsAreRead, OneListOfStmts, ListsOfStmtsAreRead}
 use Rattle.sa_grammar.proofs.Sound.{IsSound}
 use Rattle.sa_grammar.proofs.Complete.{Reads}

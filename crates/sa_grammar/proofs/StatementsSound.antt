@@ -1,38 +1,38 @@
 -- The forms of statements are sound.
 use Rattle.std.proofs.Common.{ℕ, true, List, [], ◌∷◌, ◌++◌, refl, ap, subst, ◌∙◌, append_assoc, append-nil, Option, Some, None}
-use Rattle.sa_lex.specs.declared.token.TokenKind.TheVariants as token
-use Rattle.sa_lex.specs.declared.sign.Sign.TheVariants as sign
-use Rattle.sa_lex.specs.declared.word.Word.{Word}
-use Rattle.sa_lex.specs.declared.word.Word.TheVariants as word
-use Rattle.sa_tree.specs.declared.ty.Ty.{Ty}
-use Rattle.sa_tree.specs.declared.ty.Ty.TheVariants as ty
-use Rattle.sa_tree.specs.declared.expr.Expr.{Expr}
-use Rattle.sa_tree.specs.declared.expr.Expr.TheVariants as exprtree
-use Rattle.sa_tree.specs.declared.stmt.Local.{Local}
-use Rattle.sa_tree.specs.declared.stmt.Arm.{Arm}
-use Rattle.sa_tree.specs.declared.stmt.CaseArm.{CaseArm}
-use Rattle.sa_tree.specs.declared.stmt.TypeArm.{TypeArm}
-use Rattle.sa_tree.specs.declared.stmt.Stmt.{Stmt}
-use Rattle.sa_tree.specs.declared.stmt.Stmt.TheVariants as tree
-use Rattle.sa_parse_expr.specs.declared.grammar.Scope.TheVariants.{Plain}
-use Rattle.sa_parse_expr.specs.Lexemes.{Lexeme, IsWord, IsSign, name_of}
-use Rattle.sa_parse_expr.specs.Types as types
-use Rattle.sa_parse_expr.specs.Types.{IsType}
-use Rattle.sa_parse_expr.specs.Expressions as exprs
-use Rattle.sa_parse_expr.specs.Expressions.{IsExpr}
-use Rattle.sa_parse_expr.specs.Arounds.{outside, around_of}
-use Rattle.sa_parse_expr.specs.Tests.{is_word, is_sign}
-use Rattle.sa_parse_expr.specs.Forms.{Reader, Nested, Tree, make, run, type, expr, stmts}
-use Rattle.sa_parse_expr.specs.ExpressionForms.{expr_form}
-use Rattle.sa_parse_expr.specs.StatementForms.{value_form, assigned_form, optional_value_form, name_form, typed_form, assign_form, behind_name_form, simple_form}
-use Rattle.sa_parse_expr.specs.StatementForms.{body_form, ending_form, arm_form, case_arm_form, branch_form, case_arms_form, branches_form, stmt_form, optional_stmt_form, joined, stmts_form}
-use Rattle.sa_parse_expr.proofs.BehindNames.{same_behind}
-use Rattle.sa_parse_expr.proofs.Tested.{sign_stands, word_stands, lower_stands, lexeme, a_sign, a_word}
-use Rattle.sa_parse_expr.proofs.Shorter.{opened}
-use Rattle.sa_parse.specs.Names as names
-use Rattle.sa_parse.specs.Names.{IsLower, IsName, IsMoreNames, IsNames}
-use Rattle.sa_parse.specs.Statements as stmt
-use Rattle.sa_parse.specs.Statements.{IsValue, IsValues, IsAssigned, IsOptionalExpr, IsSimple, IsBody, IsStmts, IsOptionalStmt, IsStmt, IsArms, IsArm, IsEnding, IsElse, IsCaseArms, IsCaseArm, IsBranches, IsBranch}
+use Rattle.sa_lexer.specs.declared.token.TokenKind.TheVariants as token
+use Rattle.sa_lexer.specs.declared.sign.Sign.TheVariants as sign
+use Rattle.sa_lexer.specs.declared.word.Word.{Word}
+use Rattle.sa_lexer.specs.declared.word.Word.TheVariants as word
+use Rattle.sa_ast.specs.declared.ty.Ty.{Ty}
+use Rattle.sa_ast.specs.declared.ty.Ty.TheVariants as ty
+use Rattle.sa_ast.specs.declared.expr.Expr.{Expr}
+use Rattle.sa_ast.specs.declared.expr.Expr.TheVariants as exprtree
+use Rattle.sa_ast.specs.declared.stmt.Local.{Local}
+use Rattle.sa_ast.specs.declared.stmt.BranchArm.{BranchArm}
+use Rattle.sa_ast.specs.declared.stmt.CaseArm.{CaseArm}
+use Rattle.sa_ast.specs.declared.stmt.TypeArm.{TypeArm}
+use Rattle.sa_ast.specs.declared.stmt.Stmt.{Stmt}
+use Rattle.sa_ast.specs.declared.stmt.Stmt.TheVariants as tree
+use Rattle.sa_parser_expr.specs.declared.grammar.ConditionScope.TheVariants.{Plain}
+use Rattle.sa_parser_expr.specs.Lexemes.{Lexeme, IsWord, IsSign, name_of}
+use Rattle.sa_parser_expr.specs.Types as types
+use Rattle.sa_parser_expr.specs.Types.{IsType}
+use Rattle.sa_parser_expr.specs.Expressions as exprs
+use Rattle.sa_parser_expr.specs.Expressions.{IsExpr}
+use Rattle.sa_parser_expr.specs.Enclosures.{outside, enclosure_of}
+use Rattle.sa_parser_expr.specs.Tests.{is_word, is_sign}
+use Rattle.sa_parser_expr.specs.Forms.{Reader, Nested, Ast, make, run, type, expr, stmts}
+use Rattle.sa_parser_expr.specs.ExpressionForms.{expr_form}
+use Rattle.sa_parser_expr.specs.StatementForms.{value_form, assigned_form, optional_value_form, name_form, typed_form, assign_form, after_name_form, simple_form}
+use Rattle.sa_parser_expr.specs.StatementForms.{body_form, ending_form, arm_form, case_arm_form, branch_form, case_arms_form, branches_form, stmt_form, optional_stmt_form, joined, stmts_form}
+use Rattle.sa_parser_expr.proofs.BehindNames.{same_behind}
+use Rattle.sa_parser_expr.proofs.Tested.{sign_stands, word_stands, lower_stands, lexeme, a_sign, a_word}
+use Rattle.sa_parser_expr.proofs.Shorter.{opened}
+use Rattle.sa_parser.specs.Names as names
+use Rattle.sa_parser.specs.Names.{IsLower, IsName, IsMoreNames, IsNames}
+use Rattle.sa_parser.specs.Statements as stmt
+use Rattle.sa_parser.specs.Statements.{IsValue, IsValues, IsAssigned, IsOptionalExpr, IsSimple, IsBody, IsStmts, IsOptionalStmt, IsStmt, IsArms, IsArm, IsEnding, IsElse, IsCaseArms, IsCaseArm, IsBranches, IsBranch}
 use Rattle.sa_grammar.proofs.Sound.{After, Sound, sound_shorter, sound-behind_lexeme, Separated, Listed, last, more}
 use Rattle.sa_grammar.proofs.Sound.{IsSound, sound-give, sound-refuse, sound-shift, sound-either, sound-follow, sound-separated, sound-list, sound-make, sound-until_word, sound-up}
 use Rattle.sa_grammar.proofs.ExpressionStarts.{begins_expr, origin, true_lexeme, an_expr}
@@ -45,17 +45,17 @@ pub names_behind : {ls : List Lexeme} {others : List Local} (comma : Lexeme) →
 names_behind comma is (last (names.one_name k)) = names.more_names is k names.no_more_names
 names_behind comma is (more {l = l} (names.one_name k) parting rest) = names.more_names is k (names_behind l (sign_stands sign.Comma l parting) rest)
 
-pub value_of_expr : (ls : List Lexeme) (e : Expr) → IsExpr Plain (around_of outside) ls e → IsValue ls e
+pub value_of_expr : (ls : List Lexeme) (e : Expr) → IsExpr Plain (enclosure_of outside) ls e → IsValue ls e
 value_of_expr ls e h = exprs.in_value h
 
 pub a_value : IsValue (true_lexeme ∷ []) (exprtree.Bool true origin)
-a_value = exprs.in_value (an_expr Plain (around_of outside))
+a_value = exprs.in_value (an_expr Plain (enclosure_of outside))
 
-values_listed : {ls : List Lexeme} {es : List Expr} → Listed (IsExpr Plain (around_of outside)) ls es → IsValues ls es
+values_listed : {ls : List Lexeme} {es : List Expr} → Listed (IsExpr Plain (enclosure_of outside)) ls es → IsValues ls es
 values_listed (last one) = stmt.last_value (exprs.in_value one)
 values_listed (more {l = l} one comma rest) = stmt.more_values (exprs.in_value one) (sign_stands sign.Comma l comma) (values_listed rest)
 
-arms_separated : {ls : List Lexeme} {arms : List Arm} → Separated (is_word word.Elsif) IsArm ls arms → IsArms ls arms
+arms_separated : {ls : List Lexeme} {arms : List BranchArm} → Separated (is_word word.Elsif) IsArm ls arms → IsArms ls arms
 arms_separated (last one) = stmt.last_arm one
 arms_separated (more {l = l} one parting rest) = stmt.more_arms one (word_stands word.Elsif l parting) (arms_separated rest)
 
@@ -97,7 +97,7 @@ no_stmts = stmt.last_stmt stmt.no_stmt
 an_ending : IsEnding (lexeme (token.Word word.End) ∷ []) None
 an_ending = stmt.ending stmt.no_else (a_word word.End)
 
-module _ (level : ℕ) (nested : (n : Nested) → Reader (Tree n)) (inside : (n : Nested) → Sound (Spells n) (nested n)) where
+module _ (level : ℕ) (nested : (n : Nested) → Reader (Ast n)) (inside : (n : Nested) → Sound (Spells n) (nested n)) where
   pub sound_value : IsSound level nested IsValue value_form
   sound_value = sound-up (nested_sound level nested inside (expr Plain outside)) value_of_expr
 
@@ -128,9 +128,9 @@ module _ (level : ℕ) (nested : (n : Nested) → Reader (Tree n)) (inside : (n 
   sound_assign ls a h =
       sound-shift (λ gets is. sound-make sound_value (λ ms b k. stmt.assign h (sign_stands sign.Assign gets is) k)) (sound-give (rw append-nil (stmt.alone h)))
 
-  sound_behind : (l : Lexeme) → IsLower l → IsSound level nested (After (l ∷ []) (IsExpr Plain (around_of outside))) (behind_name_form l)
+  sound_behind : (l : Lexeme) → IsLower l → IsSound level nested (After (l ∷ []) (IsExpr Plain (enclosure_of outside))) (after_name_form l)
   sound_behind l is = record {
-    reader = sound-behind_lexeme (IsExpr Plain (around_of outside)) (run level nested (expr_form Plain outside)) (run level nested (behind_name_form l)) l (same_behind level nested l is)
+    reader = sound-behind_lexeme (IsExpr Plain (enclosure_of outside)) (run level nested (expr_form Plain outside)) (run level nested (after_name_form l)) l (same_behind level nested l is)
         (sound_expr level nested inside Plain outside).reader
         (λ ls. opened level nested (λ n ms. sound_shorter (Spells n) (nested n) (inside n) ms) (expr_form Plain outside) l ls (expr_opens l ∙ ap (begins_expr Plain) is));
   }

@@ -1,28 +1,28 @@
 -- Types: each of their forms is sound and complete.
 use denote.Enum.Bare.{sameb}
 use Rattle.std.proofs.Common.{◌≡◌, ℕ, suc, ◌+◌, ◌<◌, List, [], ◌∷◌, ◌++◌, length, refl, ap, ◌∙◌, false, arith, length-append, Option}
-use Rattle.sa_lex.specs.declared.token.TokenKind.{TokenKind}
-use Rattle.sa_lex.specs.declared.token.TokenKind.TheVariants as token
-use Rattle.sa_lex.specs.declared.sign.Sign.{Sign}
-use Rattle.sa_lex.specs.declared.sign.Sign.TheVariants as sign
-use Rattle.sa_lex.specs.declared.word.Word.TheVariants as word
-use Rattle.sa_lex.specs.contracts.sign.Sign.{the_type as signs}
-use Rattle.sa_tree.specs.declared.ty.Ty.{Ty}
-use Rattle.sa_tree.specs.declared.ty.Ty.TheVariants as ty
-use Rattle.sa_tree.specs.declared.ty.ModeTy.{ModeTy}
-use Rattle.sa_tree.specs.declared.ty.Mode.{Mode}
-use Rattle.sa_tree.specs.declared.ty.Mode.TheVariants.{Once}
-use Rattle.sa_parse_expr.specs.declared.types.CallableKind.{CallableKind}
-use Rattle.sa_parse_expr.specs.declared.types.CallableKind.TheVariants.{Routine, Iter}
-use Rattle.sa_parse_expr.specs.Lexemes.{Lexeme, IsWord, IsSign, class_name, abstract_name}
-use Rattle.sa_parse_expr.specs.Types as types
-use Rattle.sa_parse_expr.specs.Types.{IsMode, IsType, IsGivenTypes, IsTypes, IsBoundArgs, IsModeTypes, IsModeType, IsBoundResult}
-use Rattle.sa_parse_expr.specs.Readings.{Read}
-use Rattle.sa_parse_expr.specs.Tests.{is_sign, is_word, is_word_kind, is_class_kind}
-use Rattle.sa_parse_expr.specs.Forms.{Reader, Nested, Tree, type, nest, follow, make}
-use Rattle.sa_parse_expr.specs.TypeForms.{once_form, mode_form, given_types_form, mode_type_form, bound_args_form, bound_result_form, type_form}
-use Rattle.sa_parse_expr.proofs.Tested.{sign_stands, word_stands, class_stands, sign_met, word_met, class_met, other_sign, other_word, lexeme, a_word}
-use Rattle.sa_parse_expr.proofs.Shifts.{Shut}
+use Rattle.sa_lexer.specs.declared.token.TokenKind.{TokenKind}
+use Rattle.sa_lexer.specs.declared.token.TokenKind.TheVariants as token
+use Rattle.sa_lexer.specs.declared.sign.Sign.{Sign}
+use Rattle.sa_lexer.specs.declared.sign.Sign.TheVariants as sign
+use Rattle.sa_lexer.specs.declared.word.Word.TheVariants as word
+use Rattle.sa_lexer.specs.contracts.sign.Sign.{the_type as signs}
+use Rattle.sa_ast.specs.declared.ty.Ty.{Ty}
+use Rattle.sa_ast.specs.declared.ty.Ty.TheVariants as ty
+use Rattle.sa_ast.specs.declared.ty.ModeTy.{ModeTy}
+use Rattle.sa_ast.specs.declared.ty.Mode.{Mode}
+use Rattle.sa_ast.specs.declared.ty.Mode.TheVariants.{Once}
+use Rattle.sa_parser_expr.specs.declared.types.CallableKind.{CallableKind}
+use Rattle.sa_parser_expr.specs.declared.types.CallableKind.TheVariants.{Routine, Iter}
+use Rattle.sa_parser_expr.specs.Lexemes.{Lexeme, IsWord, IsSign, class_name, abstract_name}
+use Rattle.sa_parser_expr.specs.Types as types
+use Rattle.sa_parser_expr.specs.Types.{IsMode, IsType, IsGivenTypes, IsTypes, IsBoundArgs, IsModeTypes, IsModeType, IsBoundResult}
+use Rattle.sa_parser_expr.specs.Readings.{Read}
+use Rattle.sa_parser_expr.specs.Tests.{is_sign, is_word, is_word_kind, is_class_kind}
+use Rattle.sa_parser_expr.specs.Forms.{Reader, Nested, Ast, type, nest, follow, make}
+use Rattle.sa_parser_expr.specs.TypeForms.{once_form, mode_form, given_types_form, mode_type_form, bound_args_form, bound_result_form, type_form}
+use Rattle.sa_parser_expr.proofs.Tested.{sign_stands, word_stands, class_stands, sign_met, word_met, class_met, other_sign, other_word, lexeme, a_word}
+use Rattle.sa_parser_expr.proofs.Shifts.{Shut}
 use Rattle.sa_grammar.proofs.Sound.{Sound, IsSound, sound-give, sound-refuse, sound-shift, sound-follow, sound-list, sound-make, sound-until, Listed, last, more}
 use Rattle.sa_grammar.proofs.Complete.{Reads, reads-give, reads-met, reads-other, reads-follow, reads-make, reads-joined, reads-until, reads-list}
 
@@ -46,7 +46,7 @@ args_separated (types.more_args one comma others) = more one (sign_met comma) (a
 
 -- ---- the forms are sound
 
-module _ (level : ℕ) (nested : (n : Nested) → Reader (Tree n)) (inside : Sound IsType (nested type)) where
+module _ (level : ℕ) (nested : (n : Nested) → Reader (Ast n)) (inside : Sound IsType (nested type)) where
   sound_nested : IsSound level nested IsType (nest type)
   sound_nested = record { reader = inside }
 
@@ -134,7 +134,7 @@ result_shut : {ms : List Lexeme} {gives : Option Ty} (rest : List Lexeme) → Is
 result_shut rest types.no_result shut = shut
 result_shut rest (types.of_result colon one) shut = other_sign sign.LeftBrace refl colon
 
-module _ (level : ℕ) (nested : (n : Nested) → Reader (Tree n)) where
+module _ (level : ℕ) (nested : (n : Nested) → Reader (Ast n)) where
   once_read : {w : Lexeme} (callable : CallableKind) (rest : List Lexeme) → callable ≡ Iter → IsWord word.Once w → Reads level nested (mode_form callable) (w ∷ rest) Once rest
   unfolding mode_form once_form
   once_read Routine rest e is = absurd (cc)
@@ -150,7 +150,7 @@ module _ (level : ℕ) (nested : (n : Nested) → Reader (Tree n)) where
   mode_read callable rest (types.in_word is) none = reads-other (other_word word.Out refl is) (reads-other (other_word word.Inout refl is) (reads-met (word_met is) reads-give))
   mode_read callable rest (types.once_word e is) none = once_read callable rest e is
 
-module _ (level : ℕ) (nested : (n : Nested) → Reader (Tree n))
+module _ (level : ℕ) (nested : (n : Nested) → Reader (Ast n))
     (inside : (ls : List Lexeme) (t : Ty) (rest : List Lexeme) → IsType ls t → length ls < level → EndsType rest → nested type (ls ++ rest) ≡ Read t rest) where
   one_read : (ls : List Lexeme) (t : Ty) (rest : List Lexeme) → IsType ls t → length ls < level → EndsType rest → Reads level nested (nest type) (ls ++ rest) t rest
   one_read ls t rest one small ends = record { is = inside ls t rest one small ends }

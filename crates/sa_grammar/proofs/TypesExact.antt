@@ -1,11 +1,11 @@
 -- Types are read exactly, and lists of them.
 use Rattle.std.proofs.Common.{ℕ, ◌<◌, List, [], ◌++◌, length, refl}
-use Rattle.sa_lex.specs.declared.sign.Sign.TheVariants as sign
-use Rattle.sa_tree.specs.declared.ty.Ty.{Ty}
-use Rattle.sa_parse_expr.specs.Lexemes.{Lexeme}
-use Rattle.sa_parse_expr.specs.Types.{IsType, IsTypes}
-use Rattle.sa_parse_expr.specs.Forms.{list, nest, type}
-use Rattle.sa_parse_expr.specs.Grammar.{nested_to}
+use Rattle.sa_lexer.specs.declared.sign.Sign.TheVariants as sign
+use Rattle.sa_ast.specs.declared.ty.Ty.{Ty}
+use Rattle.sa_parser_expr.specs.Lexemes.{Lexeme}
+use Rattle.sa_parser_expr.specs.Types.{IsType, IsTypes}
+use Rattle.sa_parser_expr.specs.Forms.{list, nest, type}
+use Rattle.sa_parser_expr.specs.Grammar.{nested_to}
 use Rattle.sa_grammar.specs.Law.{OneType, TypesAreRead, OneListOfTypes, ListsOfTypesAreRead}
 use Rattle.sa_grammar.proofs.Sound.{IsSound, sound-list}
 use Rattle.sa_grammar.proofs.Complete.{Reads, reads-list}

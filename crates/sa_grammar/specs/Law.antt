@@ -1,23 +1,23 @@
 -- What holds of the grammar.
 use Rattle.std.specs.Prelude.{List, true}
-use Rattle.sa_parse_expr.specs.Lexemes.{Lexeme}
-use Rattle.sa_parse_expr.specs.declared.grammar.Scope.{Scope}
-use Rattle.sa_parse_expr.specs.Types.{IsType, IsTypes}
-use Rattle.sa_parse_expr.specs.Expressions.{IsExpr, IsExprs, IsPost}
-use Rattle.sa_parse_expr.specs.declared.types.CallableKind.{CallableKind}
-use Rattle.sa_parse_expr.specs.Arounds.{Where, around_of}
-use Rattle.sa_parse_expr.specs.Readings.{IsUnique, IsRead}
-use Rattle.sa_parse_expr.specs.Forms.{list, nest, type, expr, post, stmts}
-use Rattle.sa_parse_expr.specs.StatementForms.{stmt_form}
-use Rattle.sa_parse_expr.specs.Grammar.{read_as}
-use Rattle.sa_parse.specs.Statements.{IsStmt, IsStmts}
-use Rattle.sa_parse.specs.Signatures.{IsFormals, IsSig}
-use Rattle.sa_parse.specs.Features.{Enclosing, IsMember}
-use Rattle.sa_parse.specs.declared.file.FileKind.{FileKind}
-use Rattle.sa_parse.specs.Classes.{IsWholeClass, IsFile}
-use Rattle.sa_parse.specs.SignatureForms.{formals_form, sig_form}
-use Rattle.sa_parse.specs.FeatureForms.{member_form}
-use Rattle.sa_parse.specs.ClassForms.{class_form, file_form}
+use Rattle.sa_parser_expr.specs.Lexemes.{Lexeme}
+use Rattle.sa_parser_expr.specs.declared.grammar.ConditionScope.{ConditionScope}
+use Rattle.sa_parser_expr.specs.Types.{IsType, IsTypes}
+use Rattle.sa_parser_expr.specs.Expressions.{IsExpr, IsExprs, IsPost}
+use Rattle.sa_parser_expr.specs.declared.types.CallableKind.{CallableKind}
+use Rattle.sa_parser_expr.specs.Enclosures.{Where, enclosure_of}
+use Rattle.sa_parser_expr.specs.Readings.{IsUnique, IsRead}
+use Rattle.sa_parser_expr.specs.Forms.{list, nest, type, expr, post, stmts}
+use Rattle.sa_parser_expr.specs.StatementForms.{stmt_form}
+use Rattle.sa_parser_expr.specs.Grammar.{read_as}
+use Rattle.sa_parser.specs.Statements.{IsStmt, IsStmts}
+use Rattle.sa_parser.specs.Signatures.{IsFormals, IsSig}
+use Rattle.sa_parser.specs.Features.{Enclosing, IsMember}
+use Rattle.sa_parser.specs.declared.file.FileKind.{FileKind}
+use Rattle.sa_parser.specs.Classes.{IsWholeClass, IsFile}
+use Rattle.sa_parser.specs.SignatureForms.{formals_form, sig_form}
+use Rattle.sa_parser.specs.FeatureForms.{member_form}
+use Rattle.sa_parser.specs.ClassForms.{class_form, file_form}
 
 -- lexemes spell one type at most
 abbrev pub OneType : Type 0
@@ -36,24 +36,24 @@ ListsOfTypesAreRead = (ls : List Lexeme) → IsRead IsTypes ls (read_as (list (n
 
 -- the same of expressions, of each scope, outside of array literals and in them
 abbrev pub OneExpr : Type 0
-OneExpr = (s : Scope) (x : Where) → IsUnique (IsExpr s (around_of x))
+OneExpr = (s : ConditionScope) (x : Where) → IsUnique (IsExpr s (enclosure_of x))
 
 abbrev pub ExprsAreRead : Type 0
-ExprsAreRead = (s : Scope) (x : Where) (ls : List Lexeme) → IsRead (IsExpr s (around_of x)) ls (read_as (nest (expr s x)) ls)
+ExprsAreRead = (s : ConditionScope) (x : Where) (ls : List Lexeme) → IsRead (IsExpr s (enclosure_of x)) ls (read_as (nest (expr s x)) ls)
 
 -- the same of expressions without operators, as a bind wants one
 abbrev pub OnePost : Type 0
-OnePost = (s : Scope) (x : Where) → IsUnique (IsPost s (around_of x))
+OnePost = (s : ConditionScope) (x : Where) → IsUnique (IsPost s (enclosure_of x))
 
 abbrev pub PostsAreRead : Type 0
-PostsAreRead = (s : Scope) (x : Where) (ls : List Lexeme) → IsRead (IsPost s (around_of x)) ls (read_as (nest (post s x)) ls)
+PostsAreRead = (s : ConditionScope) (x : Where) (ls : List Lexeme) → IsRead (IsPost s (enclosure_of x)) ls (read_as (nest (post s x)) ls)
 
 -- the same of expressions with `,` between them
 abbrev pub OneListOfExprs : Type 0
-OneListOfExprs = (s : Scope) (x : Where) → IsUnique (IsExprs s (around_of x))
+OneListOfExprs = (s : ConditionScope) (x : Where) → IsUnique (IsExprs s (enclosure_of x))
 
 abbrev pub ListsOfExprsAreRead : Type 0
-ListsOfExprsAreRead = (s : Scope) (x : Where) (ls : List Lexeme) → IsRead (IsExprs s (around_of x)) ls (read_as (list (nest (expr s x))) ls)
+ListsOfExprsAreRead = (s : ConditionScope) (x : Where) (ls : List Lexeme) → IsRead (IsExprs s (enclosure_of x)) ls (read_as (list (nest (expr s x))) ls)
 
 -- the same of statements, with those that they hold
 abbrev pub OneStmt : Type 0

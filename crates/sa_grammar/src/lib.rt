@@ -1,4 +1,4 @@
-//! The grammar, as a law of the definitions of `sa_parse_expr` and `sa_parse`: lexemes spell one type, one expression, one statement,
+//! The grammar, as a law of the definitions of `sa_parser_expr` and `sa_parser`: lexemes spell one type, one expression, one statement,
 //! one class and one file at most, and they are read as far as they begin one. No code runs this.
 #![tactic(auto)]
 

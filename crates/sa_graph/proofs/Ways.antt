@@ -6,7 +6,7 @@ use Rattle.std.proofs.lemmas.Option.{slice_get_within}
 use Rattle.sa_graph.specs.declared.graph.Graph.{Graph}
 use Rattle.sa_graph.specs.declared.reach.Ways.{Ways}
 use Rattle.sa_graph.specs.Levels.{level_of}
-use Rattle.sa_graph.specs.Paths.{IsEdge, Leads, by_edge, by_edges, ends_of, starts_of}
+use Rattle.sa_graph.specs.Paths.{IsEdge, HasPath, by_edge, by_edges, ends_of, starts_of}
 use Rattle.sa_graph.specs.Reaching.{AreReaching, IsClosed, IsClosedAt, IsOnWay, Reaches, WaysGoOn, is_set}
 use Rattle.sa_graph.proofs.Turned.{edge_before}
 
@@ -104,7 +104,7 @@ pub ruleset on_ways = (ways-none, ways-more, ways-all)
 -- ---- the answer
 
 module _ (graph : Graph) (ways : Ways) (to : ℕ) (itself : is_set ways.marks.items to ≡ true) (shut : IsClosed graph ways.marks.items) (on : WaysGoOn graph ways to) where
-  way_back : (a b : ℕ) → Leads (IsEdge graph) a b → is_set ways.marks.items b ≡ true → is_set ways.marks.items a ≡ true
+  way_back : (a b : ℕ) → HasPath (IsEdge graph) a b → is_set ways.marks.items b ≡ true → is_set ways.marks.items a ≡ true
   way_back a b (by_edge e) h = shut.closed a b e h
   way_back a b (by_edges {between = c} way e) h = way_back a c way (shut.closed c b e h)
 

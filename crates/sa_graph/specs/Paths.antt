@@ -7,9 +7,9 @@ abbrev pub HasEdge : List ℕ → List ℕ → ℕ → ℕ → Type 0
 HasEdge starts ends from to = (place : ℕ) × (slice_get starts place ≡ Some from) × (slice_get ends place ≡ Some to)
 
 -- one edge or more lead from a node to another
-pub data Leads (Edge : ℕ → ℕ → Type 0) (from : ℕ) : ℕ → Type 0 where
-  by_edge : {to : ℕ} → Edge from to → Leads Edge from to
-  by_edges : {between to : ℕ} → Leads Edge from between → Edge between to → Leads Edge from to
+pub data HasPath (Edge : ℕ → ℕ → Type 0) (from : ℕ) : ℕ → Type 0 where
+  by_edge : {to : ℕ} → Edge from to → HasPath Edge from to
+  by_edges : {between to : ℕ} → HasPath Edge from between → Edge between to → HasPath Edge from to
 
 abbrev pub node_count : Graph → ℕ
 node_count graph = graph.count
@@ -25,7 +25,7 @@ IsEdge graph = HasEdge (starts_of graph) (ends_of graph)
 
 -- a node lies on a cycle: it leads to itself
 abbrev pub IsOnCycle : Graph → ℕ → Type 0
-IsOnCycle graph node = Leads (IsEdge graph) node node
+IsOnCycle graph node = HasPath (IsEdge graph) node node
 
 -- no node before this number does
 pub record NoneBefore (graph : Graph) (bound : ℕ) : Type 0 where

@@ -4,14 +4,14 @@ use Rattle.std.specs.List.{slice_index_or}
 use Rattle.sa_graph.specs.declared.graph.Graph.{Graph}
 use Rattle.sa_graph.specs.declared.reach.Ways.{Ways}
 use Rattle.sa_graph.specs.Levels.{level_of}
-use Rattle.sa_graph.specs.Paths.{IsEdge, Leads, ends_of, starts_of}
+use Rattle.sa_graph.specs.Paths.{IsEdge, HasPath, ends_of, starts_of}
 
 abbrev pub is_set : List Bool → ℕ → Bool
 is_set marks node = slice_index_or marks node false
 
 -- a node is this one, or leads to it
 abbrev pub Reaches : Graph → ℕ → ℕ → Type 0
-Reaches graph to node = (node ≡ to) ⊎ Leads (IsEdge graph) node to
+Reaches graph to node = (node ≡ to) ⊎ HasPath (IsEdge graph) node to
 
 -- exactly those are marked
 pub record AreReaching (graph : Graph) (to : ℕ) (marks : List Bool) : Type 0 where

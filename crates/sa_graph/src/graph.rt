@@ -5,11 +5,11 @@ ghost use Rattle.sa_graph.specs.Paths.{IsFirstOnCycle, ends_of, node_count, star
 ghost use Rattle.sa_graph.specs.Reaching.{AreReaching};
 
 use crate::components::Components;
-use crate::grouped::Grouped;
+use crate::grouped::IndexGroups;
 use crate::list::word;
 use crate::reach::{Ways, edges_of_walk, ways_to};
 use crate::walk::leaving_order;
-use sa_tree::NoMemory;
+use sa_ast::NoMemory;
 use std::alloc::Global;
 
 /// Edges between nodes that are numbered from 0. An edge has the number of its place among those that were given.
@@ -18,7 +18,7 @@ pub struct Graph {
     count: usize,
     starts: Vec<u32>,
     ends: Vec<u32>,
-    by_start: Grouped,
+    by_start: IndexGroups,
 }
 
 impl Graph {
@@ -37,7 +37,7 @@ impl Graph {
         ensures starts { IfOk result (λ graph. starts_of graph ≡ starts.items) }
         ensures ends { IfOk result (λ graph. ends_of graph ≡ ends.items) }
     {
-        let by_start = Grouped::new(alloc, count, &starts)?;
+        let by_start = IndexGroups::new(alloc, count, &starts)?;
         Ok(Graph {
             count,
             starts,
@@ -100,7 +100,7 @@ impl Graph {
     ///
     /// `NoMemory`.
     pub fn cyclic(&self, alloc: Global, order: &[u32]) -> Result<Vec<bool>, NoMemory> {
-        let components = Components::new(alloc, &self.turned(alloc)?, order)?;
+        let components = Components::new(alloc, &self.transposed(alloc)?, order)?;
         self.cyclic_by(alloc, &components)
     }
 
@@ -114,7 +114,7 @@ impl Graph {
     pub fn first_on_cycle(&self, alloc: Global, order: &[u32]) -> Result<Option<usize>, NoMemory>
         ensures { IfOk result (IsFirstOnCycle self.now) }
     {
-        let components = Components::new(alloc, &self.turned(alloc)?, order)?;
+        let components = Components::new(alloc, &self.transposed(alloc)?, order)?;
         let levels = components.levels(alloc)?;
         let Some(node) = self.first_cyclic(alloc, &components)? else {
             self.try_levels(&levels, self.count)?;
@@ -158,7 +158,7 @@ impl Graph {
     pub fn reaching(&self, alloc: Global, node: u32) -> Result<Vec<bool>, NoMemory>
         ensures { IfOk result (λ marks. AreReaching self.now node marks.items) }
     {
-        let ways = ways_to(alloc, &self.turned(alloc)?, node)?;
+        let ways = ways_to(alloc, &self.transposed(alloc)?, node)?;
         self.try_ways(&ways, node)?;
         let Ways { marks, .. } = ways;
         Ok(marks)
@@ -169,7 +169,7 @@ impl Graph {
     /// # Errors
     ///
     /// `NoMemory`.
-    pub fn turned(&self, alloc: Global) -> Result<Graph, NoMemory> {
+    pub fn transposed(&self, alloc: Global) -> Result<Graph, NoMemory> {
         let starts = Vec::from_slice(alloc, self.ends.as_slice())?;
         let ends = Vec::from_slice(alloc, self.starts.as_slice())?;
         Graph::new(alloc, self.count, starts, ends)

@@ -7,9 +7,9 @@ mod graph;
 mod grouped;
 mod list;
 mod reach;
-mod trial;
+mod verifier;
 mod walk;
 
 pub use graph::Graph;
-pub use grouped::Grouped;
+pub use grouped::IndexGroups;
 pub use list::{entry, put, word};

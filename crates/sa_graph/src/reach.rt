@@ -2,7 +2,7 @@
 
 use crate::graph::Graph;
 use crate::list::{entry, put};
-use sa_tree::NoMemory;
+use sa_ast::NoMemory;
 use std::alloc::Global;
 
 /// The nodes that are reached, and those of them whose edges aren't followed yet.

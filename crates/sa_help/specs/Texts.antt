@@ -1,8 +1,8 @@
 -- Which text is printed.
 use Rattle.std.specs.Prelude.{ℕ, List}
 use Rattle.sa_help.specs.declared.texts.TheConstants as text
-use Rattle.sa_words.specs.declared.command.Topic.{Topic}
-use Rattle.sa_words.specs.declared.command.Topic.TheVariants as topic
+use Rattle.sa_cli.specs.declared.command.Topic.{Topic}
+use Rattle.sa_cli.specs.declared.command.Topic.TheVariants as topic
 
 -- the help on a topic
 abbrev pub help_text : Topic → List ℕ

@@ -4,7 +4,7 @@ ghost use Rattle.std.specs.Prelude.{◌≡◌};
 ghost use Rattle.sa_help.specs.Texts.{help_text, version_text};
 
 use crate::texts;
-use sa_words::Topic;
+use sa_cli::Topic;
 
 /// The help on a topic.
 pub fn help_text(topic: Topic) -> &'static str

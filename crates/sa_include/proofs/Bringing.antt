@@ -5,32 +5,32 @@ use Rattle.std.proofs.lemmas.List.Elements.{All-more, All-nil}
 use Rattle.std.proofs.lemmas.Option.{slice_get_read, slice_get_within}
 use Rattle.std.specs.List.{All}
 use Rattle.std.specs.Prelude.{MatchOption, ⊤}
-use Rattle.sa_tree.specs.declared.class.Change.{Change}
-use Rattle.sa_tree.specs.declared.class.Class.{Class}
-use Rattle.sa_tree.specs.declared.class.Feature.{Feature}
-use Rattle.sa_tree.specs.declared.class.Include.{Include}
-use Rattle.sa_tree.specs.declared.class.Param.{Param}
-use Rattle.sa_tree.specs.declared.pos.Pos.{Pos}
-use Rattle.sa_tree.specs.declared.ty.ModeTy.{ModeTy}
-use Rattle.sa_tree.specs.declared.ty.Ty.{Ty}
-use Rattle.sa_tree.specs.declared.ty.Ty.TheOpen.{Ty-F}
-use Rattle.sa_tree.specs.declared.ty.Ty.TheVariants as ty
-use Rattle.sa_tree.specs.declared.ty.Ty.TheViews.{out-Ty, out-roll-Ty}
-use Rattle.sa_tree.specs.Types.{bare}
+use Rattle.sa_ast.specs.declared.class.FeatureModifier.{FeatureModifier}
+use Rattle.sa_ast.specs.declared.class.Class.{Class}
+use Rattle.sa_ast.specs.declared.class.Feature.{Feature}
+use Rattle.sa_ast.specs.declared.class.Include.{Include}
+use Rattle.sa_ast.specs.declared.class.TypeParam.{TypeParam}
+use Rattle.sa_ast.specs.declared.pos.Pos.{Pos}
+use Rattle.sa_ast.specs.declared.ty.ModeTy.{ModeTy}
+use Rattle.sa_ast.specs.declared.ty.Ty.{Ty}
+use Rattle.sa_ast.specs.declared.ty.Ty.TheOpen.{Ty-F}
+use Rattle.sa_ast.specs.declared.ty.Ty.TheVariants as ty
+use Rattle.sa_ast.specs.declared.ty.Ty.TheViews.{out-Ty, out-roll-Ty}
+use Rattle.sa_ast.specs.Types.{bare}
 use Rattle.sa_types.specs.Substitution.{given_for, substituted}
 use Rattle.sa_types.specs.Table.{IsTableFor, put_in, value_in}
 use Rattle.sa_types.specs.declared.sig.Sig.{Sig}
 use Rattle.sa_types.specs.declared.substitution.Substitution.{Substitution}
 use Rattle.sa_include_conflicts.specs.Clashes.{NoneClash}
-use Rattle.sa_include_conflicts.specs.Brought.{HasSignatures, has_brought}
-use Rattle.sa_include_conflicts.specs.Known.{signatures_of}
-use Rattle.sa_include_conflicts.specs.declared.apart.Known.{Known}
+use Rattle.sa_include_conflicts.specs.IncludedFeatures.{HasSignatures, has_included}
+use Rattle.sa_include_conflicts.specs.KnownSignatures.{signatures_of}
+use Rattle.sa_include_conflicts.specs.declared.apart.KnownSignatures.{KnownSignatures}
 use Rattle.sa_include_names.specs.declared.names.ClassNumbers.{ClassNumbers}
 use Rattle.sa_include_names.specs.Includes.{number_named}
 use Rattle.sa_include_names.specs.Names.{number_of}
 use Rattle.sa_include_names.specs.Tables.{HasNumbers, number_in}
 use Rattle.sa_include.specs.Flattened.{IsApart, is_immutable}
-use Rattle.sa_include.specs.Included.{AreIncluded, BringsAll, IsBrought, given_in, given_level, name_brought, put_by}
+use Rattle.sa_include.specs.Included.{AreIncluded, BringsAll, IsInherited, given_in, given_level, included_name, put_by}
 
 -- ---- the types that a clause gives
 
@@ -54,32 +54,32 @@ pub ruleset givens = (given-Named, given-Same, given-Rout, given-Iter)
 
 -- ---- one feature
 
-module _ (changes : List Change) (put : Ty → Ty) (immutable : Bool) (known : List Sig) (f : Feature) (found : Option (List ℕ)) (is : found ≡ name_brought changes f.name.name) where
-  brought_as : (o : Option (List ℕ)) → found ≡ o → MatchOption o ⊤ (λ name. has_brought put name immutable known f ≡ true) → IsBrought changes put immutable known f
-  brought_as o e = subst (λ p. MatchOption p ⊤ (λ name. has_brought put name immutable known f ≡ true)) (sym e ∙ is)
+module _ (changes : List FeatureModifier) (put : Ty → Ty) (immutable : Bool) (known : List Sig) (f : Feature) (found : Option (List ℕ)) (is : found ≡ included_name changes f.name.name) where
+  brought_as : (o : Option (List ℕ)) → found ≡ o → MatchOption o ⊤ (λ name. has_included put name immutable known f ≡ true) → IsInherited changes put immutable known f
+  brought_as o e = subst (λ p. MatchOption p ⊤ (λ name. has_included put name immutable known f ≡ true)) (sym e ∙ is)
 
-  pub left_out : found ≡ None → IsBrought changes put immutable known f
+  pub left_out : found ≡ None → IsInherited changes put immutable known f
   left_out none = brought_as None none tt
 
-  pub is_there : (name : List ℕ) (has : Bool) → found ≡ Some name → has ≡ has_brought put name immutable known f → has ≡ true → IsBrought changes put immutable known f
+  pub is_there : (name : List ℕ) (has : Bool) → found ≡ Some name → has ≡ has_included put name immutable known f → has ≡ true → IsInherited changes put immutable known f
   is_there name has some has_is held = brought_as (Some name) some (sym has_is ∙ held)
 
 pub ruleset features_brought = (left_out, is_there)
 
 -- ---- one clause
 
-pub clause_brings : (number : List ℕ → Option ℕ) (whole : List Class) (c : Class) (clause : Include) (place : ℕ) (included : Class) (by : Substitution) (params : List Param) (given : List Ty) (same : Ty) (known : Known) (changes : List Change) (immutable : Bool) (features : List Feature) → number_named number (bare clause.ty) ≡ Some place → slice_get whole place ≡ Some included → IsTableFor params given same by → params ≡ included.params → given ≡ given_in clause.ty → same ≡ ty.Same c.name.pos → HasSignatures (is_immutable c.kind) c.features known → changes ≡ clause.changes → immutable ≡ is_immutable c.kind → features ≡ included.features → All (IsBrought changes (put_in by) immutable known.shapes.keys) features → BringsAll number whole c clause
+pub clause_brings : (number : List ℕ → Option ℕ) (whole : List Class) (c : Class) (clause : Include) (place : ℕ) (included : Class) (by : Substitution) (params : List TypeParam) (given : List Ty) (same : Ty) (known : KnownSignatures) (changes : List FeatureModifier) (immutable : Bool) (features : List Feature) → number_named number (bare clause.ty) ≡ Some place → slice_get whole place ≡ Some included → IsTableFor params given same by → params ≡ included.params → given ≡ given_in clause.ty → same ≡ ty.Same c.name.pos → HasSignatures (is_immutable c.kind) c.features known → changes ≡ clause.changes → immutable ≡ is_immutable c.kind → features ≡ included.features → All (IsInherited changes (put_in by) immutable known.shapes.keys) features → BringsAll number whole c clause
 clause_brings number whole c clause place included by params given same known changes immutable features names at table is_params is_given is_same signatures is_changes is_immutable_class is_features all = record {
   place = place;
   names = names;
   included = included;
   at = at;
   brings =
-      subst (All (IsBrought clause.changes (put_by c included clause) (is_immutable c.kind) (flat_map (signatures_of (is_immutable c.kind)) c.features))) is_features
-      (subst (λ ks. All (IsBrought clause.changes (put_by c included clause) (is_immutable c.kind) ks) features) signatures.keys
-      (subst (λ b. All (IsBrought clause.changes (put_by c included clause) b known.shapes.keys) features) is_immutable_class
-      (subst (λ put. All (IsBrought clause.changes put immutable known.shapes.keys) features) puts
-      (subst (λ cs. All (IsBrought cs (put_in by) immutable known.shapes.keys) features) is_changes all))));
+      subst (All (IsInherited clause.changes (put_by c included clause) (is_immutable c.kind) (flat_map (signatures_of (is_immutable c.kind)) c.features))) is_features
+      (subst (λ ks. All (IsInherited clause.changes (put_by c included clause) (is_immutable c.kind) ks) features) signatures.keys
+      (subst (λ b. All (IsInherited clause.changes (put_by c included clause) b known.shapes.keys) features) is_immutable_class
+      (subst (λ put. All (IsInherited clause.changes put immutable known.shapes.keys) features) puts
+      (subst (λ cs. All (IsInherited cs (put_in by) immutable known.shapes.keys) features) is_changes all))));
 }
   where
     puts : put_in by ≡ put_by c included clause

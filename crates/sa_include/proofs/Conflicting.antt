@@ -4,12 +4,12 @@ use Rattle.std.proofs.lemmas.List.{length-append, length-map}
 use Rattle.std.proofs.lemmas.List.Folds.{find-append}
 use Rattle.std.proofs.lemmas.Option.{get_or_from_slice_get, slice_get-map, slice_get_within}
 use Rattle.std.specs.Option.{option_map, option_or}
-use Rattle.sa_tree.specs.declared.class.Feature.{Feature}
-use Rattle.sa_tree.specs.declared.class.Kind.{Kind}
-use Rattle.sa_tree.specs.declared.pos.Pos.{Pos}
+use Rattle.sa_ast.specs.declared.class.Feature.{Feature}
+use Rattle.sa_ast.specs.declared.class.ClassKind.{ClassKind}
+use Rattle.sa_ast.specs.declared.pos.Pos.{Pos}
 use Rattle.sa_include.specs.Firsts.{do_any_clash, do_brought_clash, first_with, left_stub, staying_features, written_conflict}
 use Rattle.sa_include_conflicts.specs.Sharing.{AreGrouped, IsFirstConflict, IsInConflict, NoConflict, all_features, groups_at, is_set}
-use Rattle.sa_include_conflicts.specs.Staying.{all_stay, stays_brought, stays_written}
+use Rattle.sa_include_conflicts.specs.Staying.{all_stay, stays_inherited, stays_written}
 use Rattle.sa_include_conflicts.specs.Stub.{IsFirstStub, IsStubLeft, NoStubLeft, is_partial, is_stub_part}
 use Rattle.sa_include_conflicts.specs.declared.conflicts.Conflicts.{Conflicts}
 use Rattle.sa_include_conflicts.specs.declared.features.ClassFeatures.{ClassFeatures}
@@ -56,74 +56,74 @@ module _ (features : ClassFeatures) (stays : List Bool) where
 
   -- what a class writes, and what its includes bring
   module _ (known : stays ≡ all_stay features) where
-    abbrev brought : List Feature
-    brought = features.brought.now
+    abbrev inherited : List Feature
+    inherited = features.inherited.now
 
     abbrev written : List Feature
     written = features.written.now
 
     abbrev keep_brought : Feature → Bool
-    keep_brought = stays_brought features.immutable brought written
+    keep_brought = stays_inherited features.immutable inherited written
 
     abbrev keep_written : Feature → Bool
-    keep_written = stays_written features.immutable brought written
+    keep_written = stays_written features.immutable inherited written
 
-    count : length (map keep_brought brought) ≡ length brought
-    count = length-map brought keep_brought
+    count : length (map keep_brought inherited) ≡ length inherited
+    count = length-map inherited keep_brought
 
-    written_part : IsPart (length brought) written keep_written
+    written_part : IsPart (length inherited) written keep_written
     written_part = record {
-      at = λ i f at. second_part brought written (length brought + i) f (omega arith) (ap (slice_get written) (back i) ∙ at);
-      kept = λ i f at. ap (λ ms. is_set ms (length brought + i)) known ∙ get_or_from_slice_get (all_stay features) (length brought + i) (keep_written f) false (mark i f at);
+      at = λ i f at. second_part inherited written (length inherited + i) f (omega arith) (ap (slice_get written) (back i) ∙ at);
+      kept = λ i f at. ap (λ ms. is_set ms (length inherited + i)) known ∙ get_or_from_slice_get (all_stay features) (length inherited + i) (keep_written f) false (mark i f at);
     }
       where
-        back : (i : ℕ) → (length brought + i) - length brought ≡ i
+        back : (i : ℕ) → (length inherited + i) - length inherited ≡ i
         back i = omega arith
 
-        mark : (i : ℕ) (f : Feature) → slice_get written i ≡ Some f → slice_get (all_stay features) (length brought + i) ≡ Some (keep_written f)
+        mark : (i : ℕ) (f : Feature) → slice_get written i ≡ Some f → slice_get (all_stay features) (length inherited + i) ≡ Some (keep_written f)
         mark i f at =
-            second_part (map keep_brought brought) (map keep_written written) (length brought + i) (keep_written f) (omega (arith, count))
-            (ap (λ n. slice_get (map keep_written written) ((length brought + i) - n)) count ∙ ap (slice_get (map keep_written written)) (back i)
+            second_part (map keep_brought inherited) (map keep_written written) (length inherited + i) (keep_written f) (omega (arith, count))
+            (ap (λ n. slice_get (map keep_written written) ((length inherited + i) - n)) count ∙ ap (slice_get (map keep_written written)) (back i)
             ∙ slice_get-map keep_written written i ∙ ap (option_map keep_written) at)
 
-    brought_part : IsPart 0 brought keep_brought
+    brought_part : IsPart 0 inherited keep_brought
     brought_part = record {
-      at = λ i f at. first_part brought written (0 + i) f (ap (slice_get brought) (zero_plus i) ∙ at);
+      at = λ i f at. first_part inherited written (0 + i) f (ap (slice_get inherited) (zero_plus i) ∙ at);
       kept = λ i f at. ap (λ ms. is_set ms (0 + i)) known ∙ get_or_from_slice_get (all_stay features) (0 + i) (keep_brought f) false (mark i f at);
     }
       where
         zero_plus : (i : ℕ) → 0 + i ≡ i
         zero_plus i = omega arith
 
-        mark : (i : ℕ) (f : Feature) → slice_get brought i ≡ Some f → slice_get (all_stay features) (0 + i) ≡ Some (keep_brought f)
+        mark : (i : ℕ) (f : Feature) → slice_get inherited i ≡ Some f → slice_get (all_stay features) (0 + i) ≡ Some (keep_brought f)
         mark i f at =
-            first_part (map keep_brought brought) (map keep_written written) (0 + i) (keep_brought f)
-            (ap (slice_get (map keep_brought brought)) (zero_plus i) ∙ slice_get-map keep_brought brought i ∙ ap (option_map keep_brought) at)
+            first_part (map keep_brought inherited) (map keep_written written) (0 + i) (keep_brought f)
+            (ap (slice_get (map keep_brought inherited)) (zero_plus i) ∙ slice_get-map keep_brought inherited i ∙ ap (option_map keep_brought) at)
 
     -- ---- stubs
 
     abbrev is_stub : Feature → Bool
     is_stub f = is_stub_part f.part
 
-    module _ (kind : Kind) where
+    module _ (kind : ClassKind) where
       stub_at : (from : ℕ) (xs : List Feature) (keep : Feature → Bool) → IsPart from xs keep → (i : ℕ) (f : Feature) → slice_get xs i ≡ Some f → keep f ≡ true → is_stub f ≡ true → IsStubLeft (all_features features) stays (from + i) f
       stub_at from xs keep part i f at k h = record { at = part.at i f at; stub = h; kept = part.kept i f at ∙ k }
 
-      both_parts : find is_stub (staying_features features.immutable brought written) ≡ option_or (find is_stub (filter keep_brought brought)) (find is_stub (filter keep_written written))
-      both_parts = find-append is_stub (filter keep_brought brought) (filter keep_written written)
+      both_parts : find is_stub (staying_features features.immutable inherited written) ≡ option_or (find is_stub (filter keep_brought inherited)) (find is_stub (filter keep_written written))
+      both_parts = find-append is_stub (filter keep_brought inherited) (filter keep_written written)
 
-      pub no_stub_left : NoStubLeft kind (all_features features) stays → left_stub kind (staying_features features.immutable brought written) ≡ None
+      pub no_stub_left : NoStubLeft kind (all_features features) stays → left_stub kind (staying_features features.immutable inherited written) ≡ None
       no_stub_left none = by (is_partial kind) refl
         where
-          by : (b : Bool) → is_partial kind ≡ b → cond b None (find is_stub (staying_features features.immutable brought written)) ≡ None
+          by : (b : Bool) → is_partial kind ≡ b → cond b None (find is_stub (staying_features features.immutable inherited written)) ≡ None
           by true e = refl
           by false e =
               both_parts
-              ∙ ap (λ o. option_or o (find is_stub (filter keep_written written))) (none_found is_stub keep_brought brought (λ i f at k h. none.none e (0 + i) f (stub_at 0 brought keep_brought brought_part i f at k h)))
-              ∙ none_found is_stub keep_written written (λ i f at k h. none.none e (length brought + i) f (stub_at (length brought) written keep_written written_part i f at k h))
+              ∙ ap (λ o. option_or o (find is_stub (filter keep_written written))) (none_found is_stub keep_brought inherited (λ i f at k h. none.none e (0 + i) f (stub_at 0 inherited keep_brought brought_part i f at k h)))
+              ∙ none_found is_stub keep_written written (λ i f at k h. none.none e (length inherited + i) f (stub_at (length inherited) written keep_written written_part i f at k h))
 
-      pub a_stub_left : (pos : Pos) → IsFirstStub kind (all_features features) stays pos → (f : Feature) × (left_stub kind (staying_features features.immutable brought written) ≡ Some f) × (pos ≡ f.name.pos)
-      a_stub_left pos found = (found.feature, ap (λ b. cond b None (find is_stub (staying_features features.immutable brought written))) found.whole ∙ both_parts ∙ here (near (length brought)), found.named)
+      pub a_stub_left : (pos : Pos) → IsFirstStub kind (all_features features) stays pos → (f : Feature) × (left_stub kind (staying_features features.immutable inherited written) ≡ Some f) × (pos ≡ f.name.pos)
+      a_stub_left pos found = (found.feature, ap (λ b. cond b None (find is_stub (staying_features features.immutable inherited written))) found.whole ∙ both_parts ∙ here (near (length inherited)), found.named)
         where
           near : (n : ℕ) → (found.place < n) ⊎ (n ≤ found.place)
           near n = grind arith
@@ -131,29 +131,29 @@ module _ (features : ClassFeatures) (stays : List Bool) where
           none_before : (from : ℕ) (xs : List Feature) (keep : Feature → Bool) → IsPart from xs keep → (i : ℕ) (f : Feature) → from + i < found.place → slice_get xs i ≡ Some f → keep f ≡ true → is_stub f ≡ true → ⊥
           none_before from xs keep part i f lt at k h = found.first.none (from + i) f lt (stub_at from xs keep part i f at k h)
 
-          here : (found.place < length brought) ⊎ (length brought ≤ found.place) → option_or (find is_stub (filter keep_brought brought)) (find is_stub (filter keep_written written)) ≡ Some found.feature
+          here : (found.place < length inherited) ⊎ (length inherited ≤ found.place) → option_or (find is_stub (filter keep_brought inherited)) (find is_stub (filter keep_written written)) ≡ Some found.feature
           here (inl lt) =
               ap (λ o. option_or o (find is_stub (filter keep_written written)))
-              (one_found is_stub keep_brought brought found.place found.feature at
+              (one_found is_stub keep_brought inherited found.place found.feature at
               (sym (brought_part.kept found.place found.feature at) ∙ ap (is_set stays) (zero_plus found.place) ∙ found.left.kept) found.left.stub
-              (λ j g lt at_g k_g h_g. none_before 0 brought keep_brought brought_part j g (omega (arith, lt)) at_g k_g h_g))
+              (λ j g lt at_g k_g h_g. none_before 0 inherited keep_brought brought_part j g (omega (arith, lt)) at_g k_g h_g))
             where
-              at : slice_get brought found.place ≡ Some found.feature
-              at = first_part_back brought written found.place found.feature lt found.left.at
+              at : slice_get inherited found.place ≡ Some found.feature
+              at = first_part_back inherited written found.place found.feature lt found.left.at
 
               zero_plus : (i : ℕ) → 0 + i ≡ i
               zero_plus i = omega arith
           here (inr le) =
               ap (λ o. option_or o (find is_stub (filter keep_written written)))
-              (none_found is_stub keep_brought brought (λ i f at_f k h. let lt = slice_get_within brought i f at_f in none_before 0 brought keep_brought brought_part i f (omega (arith, lt, le)) at_f k h))
-              ∙ one_found is_stub keep_written written (found.place - length brought) found.feature at
-              (sym (written_part.kept (found.place - length brought) found.feature at) ∙ ap (is_set stays) same ∙ found.left.kept) found.left.stub
-              (λ j g lt at_g k_g h_g. none_before (length brought) written keep_written written_part j g (omega (arith, lt, le)) at_g k_g h_g)
+              (none_found is_stub keep_brought inherited (λ i f at_f k h. let lt = slice_get_within inherited i f at_f in none_before 0 inherited keep_brought brought_part i f (omega (arith, lt, le)) at_f k h))
+              ∙ one_found is_stub keep_written written (found.place - length inherited) found.feature at
+              (sym (written_part.kept (found.place - length inherited) found.feature at) ∙ ap (is_set stays) same ∙ found.left.kept) found.left.stub
+              (λ j g lt at_g k_g h_g. none_before (length inherited) written keep_written written_part j g (omega (arith, lt, le)) at_g k_g h_g)
             where
-              at : slice_get written (found.place - length brought) ≡ Some found.feature
-              at = second_part_back brought written found.place found.feature le found.left.at
+              at : slice_get written (found.place - length inherited) ≡ Some found.feature
+              at = second_part_back inherited written found.place found.feature le found.left.at
 
-              same : length brought + (found.place - length brought) ≡ found.place
+              same : length inherited + (found.place - length inherited) ≡ found.place
               same = omega (arith, le)
 
 -- ---- conflicts
@@ -227,9 +227,9 @@ module _ (features : ClassFeatures) (conflicts : Conflicts) (stays : List Bool) 
 
       one_up_to : (j : ℕ) (g : Feature) → IsInConflict conflicts stays from (from + j) → slice_get xs j ≡ Some g → j < k → clash_up_to ≡ true
       one_up_to j g h at lt =
-          let behind = gap from h.earlier h.after in
-          let i = behind.0 in
-          let p = pair_in i j g h at behind.1 in
+          let following = gap from h.earlier h.after in
+          let i = following.0 in
+          let p = pair_in i j g h at following.1 in
           let order = p.order in
           of_pair features.immutable keep (take k xs) i j (record {
             earlier = p.earlier;
@@ -254,41 +254,41 @@ module _ (features : ClassFeatures) (conflicts : Conflicts) (stays : List Bool) 
         (λ k lt. none_up_to (suc k) (from + i) first.first (omega (arith, lt)))
 
   module _ (known : stays ≡ all_stay features) where
-    pub no_written_conflict : (first to : ℕ) → first ≡ length features.brought.now → to ≡ length (all_features features) → NoConflict conflicts stays first to → written_conflict features.immutable features.brought.now features.written.now ≡ None
+    pub no_written_conflict : (first to : ℕ) → first ≡ length features.inherited.now → to ≡ length (all_features features) → NoConflict conflicts stays first to → written_conflict features.immutable features.inherited.now features.written.now ≡ None
     no_written_conflict first to is_first is_to none =
-        none_at_all (length features.brought.now) features.written.now (keep_written features stays known) (written_part features stays known) to (subst (λ n. NoConflict conflicts stays n to) is_first none) (omega (arith, is_to, length-append features.brought.now features.written.now))
+        none_at_all (length features.inherited.now) features.written.now (keep_written features stays known) (written_part features stays known) to (subst (λ n. NoConflict conflicts stays n to) is_first none) (omega (arith, is_to, length-append features.inherited.now features.written.now))
 
-    pub a_written_conflict : (first to place : ℕ) (f : Feature) → first ≡ length features.brought.now → IsFirstConflict conflicts stays first to place → slice_get (all_features features) place ≡ Some f → written_conflict features.immutable features.brought.now features.written.now ≡ Some f
-    a_written_conflict first to place f is_first found at = by (gap (length features.brought.now) place le)
+    pub a_written_conflict : (first to place : ℕ) (f : Feature) → first ≡ length features.inherited.now → IsFirstConflict conflicts stays first to place → slice_get (all_features features) place ≡ Some f → written_conflict features.immutable features.inherited.now features.written.now ≡ Some f
+    a_written_conflict first to place f is_first found at = by (gap (length features.inherited.now) place le)
       where
-        le : length features.brought.now ≤ place
+        le : length features.inherited.now ≤ place
         le = let after = found.conflict.after in let before = found.conflict.before in omega (arith, is_first, after, before)
 
-        own_place : (i : ℕ) → length features.brought.now + i ≡ place → i ≡ place - length features.brought.now
+        own_place : (i : ℕ) → length features.inherited.now + i ≡ place → i ≡ place - length features.inherited.now
         own_place i e = omega (arith, e)
 
-        by : (i : ℕ) × (length features.brought.now + i ≡ place) → written_conflict features.immutable features.brought.now features.written.now ≡ Some f
-        by behind =
-            first_at (length features.brought.now) features.written.now (keep_written features stays known) (written_part features stays known) to behind.0 f
-            (subst (IsFirstConflict conflicts stays (length features.brought.now) to) (sym behind.1) (subst (λ n. IsFirstConflict conflicts stays n to place) is_first found))
-            (ap (slice_get features.written.now) (own_place behind.0 behind.1) ∙ second_part_back features.brought.now features.written.now place f le at)
+        by : (i : ℕ) × (length features.inherited.now + i ≡ place) → written_conflict features.immutable features.inherited.now features.written.now ≡ Some f
+        by following =
+            first_at (length features.inherited.now) features.written.now (keep_written features stays known) (written_part features stays known) to following.0 f
+            (subst (IsFirstConflict conflicts stays (length features.inherited.now) to) (sym following.1) (subst (λ n. IsFirstConflict conflicts stays n to place) is_first found))
+            (ap (slice_get features.written.now) (own_place following.0 following.1) ∙ second_part_back features.inherited.now features.written.now place f le at)
 
     -- whether two brought features that stay conflict
-    pub no_brought_conflict : (to : ℕ) → to ≡ length features.brought.now → NoConflict conflicts stays 0 to → do_brought_clash features.immutable features.brought.now features.written.now features.brought.now ≡ false
+    pub no_brought_conflict : (to : ℕ) → to ≡ length features.inherited.now → NoConflict conflicts stays 0 to → do_brought_clash features.immutable features.inherited.now features.written.now features.inherited.now ≡ false
     no_brought_conflict to is_to none =
-        subst (λ xs. do_brought_clash features.immutable features.brought.now features.written.now xs ≡ false) (take_all (length features.brought.now) features.brought.now (omega arith))
-        (none_up_to 0 features.brought.now (keep_brought features stays known) (brought_part features stays known) (length features.brought.now) to none (omega (arith, is_to)))
+        subst (λ xs. do_brought_clash features.immutable features.inherited.now features.written.now xs ≡ false) (take_all (length features.inherited.now) features.inherited.now (omega arith))
+        (none_up_to 0 features.inherited.now (keep_brought features stays known) (brought_part features stays known) (length features.inherited.now) to none (omega (arith, is_to)))
 
-    pub a_brought_conflict : (to place : ℕ) → to ≡ length features.brought.now → IsFirstConflict conflicts stays 0 to place → do_brought_clash features.immutable features.brought.now features.written.now features.brought.now ≡ true
-    a_brought_conflict to place is_to found = by (there_is features.brought.now place lt)
+    pub a_brought_conflict : (to place : ℕ) → to ≡ length features.inherited.now → IsFirstConflict conflicts stays 0 to place → do_brought_clash features.immutable features.inherited.now features.written.now features.inherited.now ≡ true
+    a_brought_conflict to place is_to found = by (there_is features.inherited.now place lt)
       where
-        lt : place < length features.brought.now
+        lt : place < length features.inherited.now
         lt = let within = found.within in omega (arith, is_to, within)
 
         zero_plus : place ≡ 0 + place
         zero_plus = omega arith
 
-        by : (g : Feature) × (slice_get features.brought.now place ≡ Some g) → do_brought_clash features.immutable features.brought.now features.written.now features.brought.now ≡ true
+        by : (g : Feature) × (slice_get features.inherited.now place ≡ Some g) → do_brought_clash features.immutable features.inherited.now features.written.now features.inherited.now ≡ true
         by at =
-            subst (λ xs. do_brought_clash features.immutable features.brought.now features.written.now xs ≡ true) (take_all (length features.brought.now) features.brought.now (omega arith))
-            (one_up_to 0 features.brought.now (keep_brought features stays known) (brought_part features stays known) (length features.brought.now) place at.0 (subst (IsInConflict conflicts stays 0) zero_plus found.conflict) at.1 lt)
+            subst (λ xs. do_brought_clash features.immutable features.inherited.now features.written.now xs ≡ true) (take_all (length features.inherited.now) features.inherited.now (omega arith))
+            (one_up_to 0 features.inherited.now (keep_brought features stays known) (brought_part features stays known) (length features.inherited.now) place at.0 (subst (IsInConflict conflicts stays 0) zero_plus found.conflict) at.1 lt)

@@ -2,28 +2,28 @@
 use Rattle.std.proofs.Common.{◌≡◌, ◌||◌, ℕ, zero, suc, ◌<◌, Bool, true, false, cond, filter, find, List, [], ◌∷◌, ◌++◌, None, Some, length, slice_get, take, refl, sym, ap, ◌∙◌, append_assoc, arith}
 use Rattle.std.proofs.lemmas.Bool.{false≢true}
 use Rattle.std.specs.List.{list_any}
-use Rattle.sa_tree.specs.declared.class.Feature.{Feature}
+use Rattle.sa_ast.specs.declared.class.Feature.{Feature}
 use Rattle.sa_include_conflicts.specs.Clashes.{do_clash}
-use Rattle.sa_include.specs.Firsts.{do_any_clash, first_behind, first_with}
+use Rattle.sa_include.specs.Firsts.{do_any_clash, first_following, first_with}
 
 -- ---- the first element with which a list passes a test
 
 module _ {A : Type 0} (test : List A → Bool) where
-  none_behind : (seen more : List A) → ((k : ℕ) → k < length more → test (seen ++ take (suc k) more) ≡ false) → first_behind test seen more ≡ None
+  none_behind : (seen more : List A) → ((k : ℕ) → k < length more → test (seen ++ take (suc k) more) ≡ false) → first_following test seen more ≡ None
   none_behind seen [] none = refl
   none_behind seen (x ∷ more) none =
-      ap (λ b. cond b (Some x) (first_behind test (seen ++ x ∷ []) more)) (none 0 (omega arith))
+      ap (λ b. cond b (Some x) (first_following test (seen ++ x ∷ []) more)) (none 0 (omega arith))
       ∙ none_behind (seen ++ x ∷ []) more (λ k lt. ap test (append_assoc seen (x ∷ []) (take (suc k) more)) ∙ none (suc k) (omega (arith, lt)))
 
   pub none_with : (xs : List A) → ((k : ℕ) → k < length xs → test (take (suc k) xs) ≡ false) → first_with test xs ≡ None
   unfolding first_with
   none_with xs none = none_behind [] xs none
 
-  one_behind : (seen more : List A) (i : ℕ) (x : A) → slice_get more i ≡ Some x → test (seen ++ take (suc i) more) ≡ true → ((k : ℕ) → k < i → test (seen ++ take (suc k) more) ≡ false) → first_behind test seen more ≡ Some x
+  one_behind : (seen more : List A) (i : ℕ) (x : A) → slice_get more i ≡ Some x → test (seen ++ take (suc i) more) ≡ true → ((k : ℕ) → k < i → test (seen ++ take (suc k) more) ≡ false) → first_following test seen more ≡ Some x
   one_behind seen [] i x at here none = cc
-  one_behind seen (y ∷ more) zero x at here none = ap (λ b. cond b (Some y) (first_behind test (seen ++ y ∷ []) more)) here ∙ at
+  one_behind seen (y ∷ more) zero x at here none = ap (λ b. cond b (Some y) (first_following test (seen ++ y ∷ []) more)) here ∙ at
   one_behind seen (y ∷ more) (suc i) x at here none =
-      ap (λ b. cond b (Some y) (first_behind test (seen ++ y ∷ []) more)) (none 0 (omega arith))
+      ap (λ b. cond b (Some y) (first_following test (seen ++ y ∷ []) more)) (none 0 (omega arith))
       ∙ one_behind (seen ++ y ∷ []) more i x at (ap test (append_assoc seen (y ∷ []) (take (suc i) more)) ∙ here)
       (λ k lt. ap test (append_assoc seen (y ∷ []) (take (suc k) more)) ∙ none (suc k) (omega (arith, lt)))
 
@@ -102,8 +102,8 @@ module _ (immutable : Bool) (keep : Feature → Bool) where
   pair_of [] h = absurd (false≢true h)
   pair_of (f ∷ xs) h = by (keep f) refl h (pair_of xs)
     where
-      behind : (i : ℕ) × (j : ℕ) × IsPair xs i j → (i : ℕ) × (j : ℕ) × IsPair (f ∷ xs) i j
-      behind rest =
+      following : (i : ℕ) × (j : ℕ) × IsPair xs i j → (i : ℕ) × (j : ℕ) × IsPair (f ∷ xs) i j
+      following rest =
           let p = rest.2 in (
             suc rest.0,
             suc rest.1,
@@ -138,12 +138,12 @@ module _ (immutable : Bool) (keep : Feature → Bool) where
 
       both : (b c : Bool) → list_any (do_clash immutable f) (filter keep xs) ≡ b → do_any_clash immutable (filter keep xs) ≡ c → keep f ≡ true → (b || c) ≡ true → (do_any_clash immutable (filter keep xs) ≡ true → (i : ℕ) × (j : ℕ) × IsPair xs i j) → (i : ℕ) × (j : ℕ) × IsPair (f ∷ xs) i j
       both true c p q e g later = here e p
-      both false true p q e g later = behind (later q)
+      both false true p q e g later = following (later q)
       both false false p q e g later = absurd (false≢true g)
 
       by : (k : Bool) → keep f ≡ k → do_any_clash immutable (cond k (f ∷ filter keep xs) (filter keep xs)) ≡ true → (do_any_clash immutable (filter keep xs) ≡ true → (i : ℕ) × (j : ℕ) × IsPair xs i j) → (i : ℕ) × (j : ℕ) × IsPair (f ∷ xs) i j
       by true e g later = both (list_any (do_clash immutable f) (filter keep xs)) (do_any_clash immutable (filter keep xs)) refl refl e g later
-      by false e g later = behind (later g)
+      by false e g later = following (later g)
 
   pub of_pair : (xs : List Feature) (i j : ℕ) → IsPair xs i j → do_any_clash immutable (filter keep xs) ≡ true
   of_pair [] i j p = absurd (nothing i p.earlier p.at_earlier)

@@ -1,17 +1,17 @@
 -- A part of a feature in which nothing is put in place of anything is as it was.
 use Rattle.std.proofs.Common.{◌≡◌, ℕ, List, [], Option, None, Some, refl, sym, ap, ◌∙◌}
 use Rattle.std.specs.Option.{option_map}
-use Rattle.sa_tree.specs.declared.class.Param.{Param}
-use Rattle.sa_tree.specs.declared.class.Part.{Part}
-use Rattle.sa_tree.specs.declared.class.Part.TheVariants as part
-use Rattle.sa_tree.specs.declared.expr.Expr.{Expr}
-use Rattle.sa_tree.specs.declared.pos.Pos.{Pos}
-use Rattle.sa_tree.specs.declared.ty.Ty.{Ty}
-use Rattle.sa_tree.specs.declared.ty.Ty.TheVariants as ty
+use Rattle.sa_ast.specs.declared.class.TypeParam.{TypeParam}
+use Rattle.sa_ast.specs.declared.class.FeatureBody.{FeatureBody}
+use Rattle.sa_ast.specs.declared.class.FeatureBody.TheVariants as part
+use Rattle.sa_ast.specs.declared.expr.Expr.{Expr}
+use Rattle.sa_ast.specs.declared.pos.Pos.{Pos}
+use Rattle.sa_ast.specs.declared.ty.Ty.{Ty}
+use Rattle.sa_ast.specs.declared.ty.Ty.TheVariants as ty
 use Rattle.sa_types.specs.Table.{IsTableFor, put_in, value_in}
 use Rattle.sa_types.specs.declared.substitution.Substitution.{Substitution}
-use Rattle.sa_instance.specs.Trees.{expr_with}
-use Rattle.sa_instance.proofs.Unchanged.{expr_with-same, substituted-nothing}
+use Rattle.sa_subst.specs.Trees.{expr_with}
+use Rattle.sa_subst.proofs.Unchanged.{expr_with-same, substituted-nothing}
 use Rattle.sa_include.specs.Parts.{PutsNothing, part_with}
 
 module _ (by : Substitution) (nothing : PutsNothing by) where
@@ -22,7 +22,7 @@ module _ (by : Substitution) (nothing : PutsNothing by) where
   value None = refl
   value (Some e) = ap Some (expr_with-same (put_in by) put e)
 
-  pub part_nothing : (p : Part) → part_with (put_in by) p ≡ p
+  pub part_nothing : (p : FeatureBody) → part_with (put_in by) p ≡ p
   part_nothing (part.Routine body) = refl
   part_nothing part.Signature = refl
   part_nothing part.Stub = refl

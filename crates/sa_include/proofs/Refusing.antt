@@ -6,19 +6,19 @@ use Rattle.std.specs.List.{Contains}
 use Rattle.std.specs.Option.{option_or}
 use Rattle.std.proofs.Math.Path.{fun_ext}
 use Rattle.std.specs.Prelude.{IfSome, MatchOption, count_by, is_some}
-use Rattle.sa_tree.specs.declared.class.Change.{Change}
-use Rattle.sa_tree.specs.declared.class.Class.{Class}
-use Rattle.sa_tree.specs.declared.class.Feature.{Feature}
-use Rattle.sa_tree.specs.declared.class.Include.{Include}
-use Rattle.sa_tree.specs.declared.class.Kind.{Kind}
-use Rattle.sa_tree.specs.declared.pos.Pos.{Pos}
-use Rattle.sa_tree.specs.declared.refusal.Refusal.{Refusal}
-use Rattle.sa_tree.specs.declared.rule.Rule.TheVariants as rule
-use Rattle.sa_tree.specs.declared.ty.ModeTy.{ModeTy}
-use Rattle.sa_tree.specs.declared.ty.Ty.{Ty}
-use Rattle.sa_tree.specs.declared.ty.Ty.TheOpen.{Ty-F}
-use Rattle.sa_tree.specs.declared.ty.Ty.TheVariants as ty
-use Rattle.sa_tree.specs.declared.ty.Ty.TheViews.{out-Ty, out-roll-Ty}
+use Rattle.sa_ast.specs.declared.class.FeatureModifier.{FeatureModifier}
+use Rattle.sa_ast.specs.declared.class.Class.{Class}
+use Rattle.sa_ast.specs.declared.class.Feature.{Feature}
+use Rattle.sa_ast.specs.declared.class.Include.{Include}
+use Rattle.sa_ast.specs.declared.class.ClassKind.{ClassKind}
+use Rattle.sa_ast.specs.declared.pos.Pos.{Pos}
+use Rattle.sa_ast.specs.declared.refusal.Refusal.{Refusal}
+use Rattle.sa_ast.specs.declared.rule.Rule.TheVariants as rule
+use Rattle.sa_ast.specs.declared.ty.ModeTy.{ModeTy}
+use Rattle.sa_ast.specs.declared.ty.Ty.{Ty}
+use Rattle.sa_ast.specs.declared.ty.Ty.TheOpen.{Ty-F}
+use Rattle.sa_ast.specs.declared.ty.Ty.TheVariants as ty
+use Rattle.sa_ast.specs.declared.ty.Ty.TheViews.{out-Ty, out-roll-Ty}
 use Rattle.sa_include.specs.Firsts.{do_brought_clash, left_stub, staying_features, written_conflict}
 use Rattle.sa_include_conflicts.specs.Sharing.{AreGrouped, IsFirstConflict, NoConflict, all_features}
 use Rattle.sa_include_conflicts.specs.Staying.{all_stay}
@@ -31,8 +31,8 @@ use Rattle.sa_include_names.specs.Names.{number_of}
 use Rattle.sa_include_names.specs.Refusals.{AreIncludesRight, RefusesNames}
 use Rattle.sa_include_names.specs.Tables.{number_in}
 use Rattle.sa_include.specs.Flattened.{is_immutable}
-use Rattle.sa_include.specs.declared.clause.Gathered.{Gathered}
-use Rattle.sa_include.specs.declared.resolved.Program.{Program}
+use Rattle.sa_include.specs.declared.clause.CollectedFeatures.{CollectedFeatures}
+use Rattle.sa_include.specs.declared.resolved.IncludeProgram.{IncludeProgram}
 use Rattle.sa_include.specs.Resolved.{KnowsIncludes}
 use Rattle.sa_include.specs.Refusals.{HasFeatures, IsClauseRefusal, IsFirstRefusal, IsGathered, IsOfChange, IsOfClause, IsOfType, IsVerdict, RefusesIncludes, at_name, first_refusal, pos_level, type_pos}
 
@@ -49,17 +49,17 @@ pub ruleset refusing = (refused_by_names, refused_by_class)
 -- ---- the features that a class writes
 
 module _ (features : ClassFeatures) (conflicts : Conflicts) (stays : List Bool) (grouped : AreGrouped features conflicts) (known : stays ≡ all_stay features) where
-  pub no_written : (first to : ℕ) → first ≡ length features.brought.now → to ≡ length (all_features features) → NoConflict conflicts stays first to → None ≡ at_name rule.FeaturesConflict (written_conflict features.immutable features.brought.now features.written.now)
+  pub no_written : (first to : ℕ) → first ≡ length features.inherited.now → to ≡ length (all_features features) → NoConflict conflicts stays first to → None ≡ at_name rule.FeaturesConflict (written_conflict features.immutable features.inherited.now features.written.now)
   no_written first to is_first is_to none =
       sym (ap (at_name rule.FeaturesConflict) (no_written_conflict features conflicts stays grouped known first to is_first is_to none))
 
-  pub a_written : (first to place : ℕ) (f : Feature) (refusal : Refusal) → first ≡ length features.brought.now → IsFirstConflict conflicts stays first to place → slice_get (all_features features) place ≡ Some f → refusal ≡ record { rule = rule.FeaturesConflict; pos = f.name.pos } → Some refusal ≡ at_name rule.FeaturesConflict (written_conflict features.immutable features.brought.now features.written.now)
+  pub a_written : (first to place : ℕ) (f : Feature) (refusal : Refusal) → first ≡ length features.inherited.now → IsFirstConflict conflicts stays first to place → slice_get (all_features features) place ≡ Some f → refusal ≡ record { rule = rule.FeaturesConflict; pos = f.name.pos } → Some refusal ≡ at_name rule.FeaturesConflict (written_conflict features.immutable features.inherited.now features.written.now)
   a_written first to place f refusal is_first found at is =
       ap Some is ∙ sym (ap (at_name rule.FeaturesConflict) (a_written_conflict features conflicts stays grouped known first to place f is_first found at))
 
   -- ---- the features that includes bring
 
-  pub brought_conflict : (last : ℕ) (conflict : Option ℕ) → last ≡ length features.brought.now → MatchOption conflict (NoConflict conflicts stays 0 last) (IsFirstConflict conflicts stays 0 last) → is_some conflict ≡ do_brought_clash features.immutable features.brought.now features.written.now features.brought.now
+  pub brought_conflict : (last : ℕ) (conflict : Option ℕ) → last ≡ length features.inherited.now → MatchOption conflict (NoConflict conflicts stays 0 last) (IsFirstConflict conflicts stays 0 last) → is_some conflict ≡ do_brought_clash features.immutable features.inherited.now features.written.now features.inherited.now
   brought_conflict last None is none = sym (no_brought_conflict features conflicts stays grouped known last is none)
   brought_conflict last (Some place) is first = sym (a_brought_conflict features conflicts stays grouped known last place is first)
 
@@ -67,11 +67,11 @@ pub ruleset written_conflicts = (no_written, a_written)
 
 -- ---- stubs
 
-module _ (features : ClassFeatures) (stays : List Bool) (known : stays ≡ all_stay features) (kind : Kind) where
-  pub no_stub : NoStubLeft kind (all_features features) stays → None ≡ at_name rule.StubLeft (left_stub kind (staying_features features.immutable features.brought.now features.written.now))
+module _ (features : ClassFeatures) (stays : List Bool) (known : stays ≡ all_stay features) (kind : ClassKind) where
+  pub no_stub : NoStubLeft kind (all_features features) stays → None ≡ at_name rule.StubLeft (left_stub kind (staying_features features.immutable features.inherited.now features.written.now))
   no_stub none = sym (ap (at_name rule.StubLeft) (no_stub_left features stays known kind none))
 
-  pub a_stub : (pos : Pos) (refusal : Refusal) → IsFirstStub kind (all_features features) stays pos → refusal ≡ record { rule = rule.StubLeft; pos = pos } → Some refusal ≡ at_name rule.StubLeft (left_stub kind (staying_features features.immutable features.brought.now features.written.now))
+  pub a_stub : (pos : Pos) (refusal : Refusal) → IsFirstStub kind (all_features features) stays pos → refusal ≡ record { rule = rule.StubLeft; pos = pos } → Some refusal ≡ at_name rule.StubLeft (left_stub kind (staying_features features.immutable features.inherited.now features.written.now))
   a_stub pos refusal found is =
       let left = a_stub_left features stays known kind pos found in
       ap Some (is ∙ ap (λ p. record { rule = rule.StubLeft; pos = p }) left.2) ∙ sym (ap (at_name rule.StubLeft) left.1)
@@ -81,21 +81,21 @@ pub ruleset stubs_left = (no_stub, a_stub)
 -- ---- the first refusal of a class
 
 module _ (classes : List Class) (c : Class) (features : ClassFeatures) (changes : Option Refusal) (has : HasFeatures c features) (of_change : IfSome changes (IsOfClause c.includes)) where
-  abbrev brought : List Feature
-  brought = features.brought.now
+  abbrev inherited : List Feature
+  inherited = features.inherited.now
 
   abbrev conflict : Option Feature
-  conflict = written_conflict (is_immutable c.kind) brought c.features
+  conflict = written_conflict (is_immutable c.kind) inherited c.features
 
   abbrev stub : Option Refusal
-  stub = at_name rule.StubLeft (left_stub c.kind (staying_features (is_immutable c.kind) brought c.features))
+  stub = at_name rule.StubLeft (left_stub c.kind (staying_features (is_immutable c.kind) inherited c.features))
 
   abbrev Due : Option Refusal → Type 0
-  Due clauses = changes ≡ None → conflict ≡ None → IsClauseRefusal classes c (do_brought_clash (is_immutable c.kind) brought c.features brought) clauses
+  Due clauses = changes ≡ None → conflict ≡ None → IsClauseRefusal classes c (do_brought_clash (is_immutable c.kind) inherited c.features inherited) clauses
 
-  verdict : (found clauses : Option Refusal) → Due clauses → found ≡ first_refusal c brought changes clauses → IsVerdict classes c found
+  verdict : (found clauses : Option Refusal) → Due clauses → found ≡ first_refusal c inherited changes clauses → IsVerdict classes c found
   verdict found clauses due is = record {
-    brought = brought;
+    inherited = inherited;
     no_includes = has.no_includes;
     changes = changes;
     of_change = of_change;
@@ -104,14 +104,14 @@ module _ (classes : List Class) (c : Class) (features : ClassFeatures) (changes 
     is = is;
   }
 
-  conflict_is : written_conflict features.immutable brought features.written.now ≡ conflict
-  conflict_is = ap (λ b. written_conflict b brought features.written.now) has.immutable ∙ ap (λ fs. written_conflict (is_immutable c.kind) brought fs) has.written
+  conflict_is : written_conflict features.immutable inherited features.written.now ≡ conflict
+  conflict_is = ap (λ b. written_conflict b inherited features.written.now) has.immutable ∙ ap (λ fs. written_conflict (is_immutable c.kind) inherited fs) has.written
 
-  stub_is : left_stub c.kind (staying_features features.immutable brought features.written.now) ≡ left_stub c.kind (staying_features (is_immutable c.kind) brought c.features)
-  stub_is = ap (λ b. left_stub c.kind (staying_features b brought features.written.now)) has.immutable ∙ ap (λ fs. left_stub c.kind (staying_features (is_immutable c.kind) brought fs)) has.written
+  stub_is : left_stub c.kind (staying_features features.immutable inherited features.written.now) ≡ left_stub c.kind (staying_features (is_immutable c.kind) inherited c.features)
+  stub_is = ap (λ b. left_stub c.kind (staying_features b inherited features.written.now)) has.immutable ∙ ap (λ fs. left_stub c.kind (staying_features (is_immutable c.kind) inherited fs)) has.written
 
-  clash_is : do_brought_clash features.immutable brought features.written.now brought ≡ do_brought_clash (is_immutable c.kind) brought c.features brought
-  clash_is = ap (λ b. do_brought_clash b brought features.written.now brought) has.immutable ∙ ap (λ fs. do_brought_clash (is_immutable c.kind) brought fs brought) has.written
+  clash_is : do_brought_clash features.immutable inherited features.written.now inherited ≡ do_brought_clash (is_immutable c.kind) inherited c.features inherited
+  clash_is = ap (λ b. do_brought_clash b inherited features.written.now inherited) has.immutable ∙ ap (λ fs. do_brought_clash (is_immutable c.kind) inherited fs inherited) has.written
 
   module _ {A : Type 0} where
     is_none : (o : Option A) → is_some o ≡ false → o ≡ None
@@ -131,34 +131,34 @@ module _ (classes : List Class) (c : Class) (features : ClassFeatures) (changes 
       verdict changes None (λ none. absurd (not_none changes some none))
       (sym (or_some changes (option_or (at_name rule.FeaturesConflict conflict) (option_or None stub)) some))
 
-  module _ (unchanged : is_some changes ≡ false) (written : Option Refusal) (is_written : written ≡ at_name rule.FeaturesConflict (written_conflict features.immutable brought features.written.now)) where
+  module _ (unchanged : is_some changes ≡ false) (written : Option Refusal) (is_written : written ≡ at_name rule.FeaturesConflict (written_conflict features.immutable inherited features.written.now)) where
     written_is : written ≡ at_name rule.FeaturesConflict conflict
     written_is = is_written ∙ ap (at_name rule.FeaturesConflict) conflict_is
 
     -- where no change is refused
-    behind : (found clauses : Option Refusal) → Due clauses → found ≡ option_or written (option_or clauses stub) → IsVerdict classes c found
-    behind found clauses due is =
+    following : (found clauses : Option Refusal) → Due clauses → found ≡ option_or written (option_or clauses stub) → IsVerdict classes c found
+    following found clauses due is =
         verdict found clauses due
         (is ∙ ap (λ o. option_or o (option_or clauses stub)) written_is
         ∙ sym (ap (λ o. option_or o (option_or (at_name rule.FeaturesConflict conflict) (option_or clauses stub))) (is_none changes unchanged)))
 
     pub by_written : is_some written ≡ true → IsVerdict classes c written
     by_written some =
-        behind written None (λ h none. absurd (not_none written some (written_is ∙ ap (at_name rule.FeaturesConflict) none)))
+        following written None (λ h none. absurd (not_none written some (written_is ∙ ap (at_name rule.FeaturesConflict) none)))
         (sym (or_some written (option_or None stub) some))
 
-    module _ (unwritten : is_some written ≡ false) (clause : Option Refusal) (is_clause : IsClauseRefusal classes c (do_brought_clash features.immutable brought features.written.now brought) clause) where
+    module _ (unwritten : is_some written ≡ false) (clause : Option Refusal) (is_clause : IsClauseRefusal classes c (do_brought_clash features.immutable inherited features.written.now inherited) clause) where
       due : Due clause
       due h g = subst (λ b. IsClauseRefusal classes c b clause) clash_is is_clause
 
       pub by_clause : is_some clause ≡ true → IsVerdict classes c clause
       by_clause some =
-          behind clause clause due
+          following clause clause due
           (sym (or_some clause stub some) ∙ sym (ap (λ o. option_or o (option_or clause stub)) (is_none written unwritten)))
 
-      pub by_stub : (found : Option Refusal) → is_some clause ≡ false → found ≡ at_name rule.StubLeft (left_stub c.kind (staying_features features.immutable brought features.written.now)) → IsVerdict classes c found
+      pub by_stub : (found : Option Refusal) → is_some clause ≡ false → found ≡ at_name rule.StubLeft (left_stub c.kind (staying_features features.immutable inherited features.written.now)) → IsVerdict classes c found
       by_stub found unclaused is =
-          behind found clause due
+          following found clause due
           (is ∙ ap (at_name rule.StubLeft) stub_is ∙ sym (ap (λ o. option_or o stub) (is_none clause unclaused))
           ∙ sym (ap (λ o. option_or o (option_or clause stub)) (is_none written unwritten)))
 
@@ -173,7 +173,7 @@ verdict_at classes number class judged found at verdict same c at_c =
     one : {x y : Class} → Some x ≡ Some y → x ≡ y
     one q = cc
 
-pub has_features : (c : Class) (features : ClassFeatures) (among : List Feature) → features.immutable ≡ is_immutable c.kind → features.written.now ≡ c.features → features.brought.now ≡ among → (c.includes ≡ [] → among ≡ []) → HasFeatures c features
+pub has_features : (c : Class) (features : ClassFeatures) (among : List Feature) → features.immutable ≡ is_immutable c.kind → features.written.now ≡ c.features → features.inherited.now ≡ among → (c.includes ≡ [] → among ≡ []) → HasFeatures c features
 has_features c features among immutable written is none = record { immutable = immutable; written = written; no_includes = λ h. is ∙ none h }
 
 pub ruleset verdicts_at = (verdict_at, has_features)
@@ -187,7 +187,7 @@ there xs i x at = subst (Contains xs) (get_or_from_slice_get xs i x x at) (Conta
 item_there : {A : Type 0} (xs : List A) (i : ℕ) (x : A) → i < length xs → x ≡ get_or xs i x → Contains xs x
 item_there xs i x lt is = subst (Contains xs) (sym is) (Contains-get_or xs i x lt)
 
-pub of_this_change : (changes : List Change) (i : ℕ) (change : Change) (refusal : Refusal) → i < length changes → change ≡ get_or changes i change → refusal ≡ record { rule = rule.NoSuchIncludedFeature; pos = change.from.pos } → IsOfChange changes refusal
+pub of_this_change : (changes : List FeatureModifier) (i : ℕ) (change : FeatureModifier) (refusal : Refusal) → i < length changes → change ≡ get_or changes i change → refusal ≡ record { rule = rule.NoSuchIncludedFeature; pos = change.from.pos } → IsOfChange changes refusal
 of_this_change changes i change refusal lt at is = record { change = change; has = item_there changes i change lt at; is = is }
 
 pub of_this_clause : (clauses : List Include) (i : ℕ) (clause : Include) (earlier wrong : Option Refusal) → i < length clauses → clause ≡ get_or clauses i clause → IfSome earlier (IsOfClause clauses) → IfSome wrong (IsOfChange clause.changes) → IfSome (option_or earlier wrong) (IsOfClause clauses)
@@ -220,7 +220,7 @@ more_gathered clauses items place clause old new earlier wrong refusal same so_f
       (subst (λ (cs : List Include). clause ≡ get_or cs place clause) same at) so_far.of_change here);
 }
 
-pub all_gathered : (c : Class) (clauses : List Include) (place : ℕ) (gathered : Gathered) → clauses ≡ c.includes → IsGatheredUpTo clauses place gathered.features.items gathered.refusal → place ≤ length clauses → IsGathered c gathered
+pub all_gathered : (c : Class) (clauses : List Include) (place : ℕ) (gathered : CollectedFeatures) → clauses ≡ c.includes → IsGatheredUpTo clauses place gathered.features.items gathered.refusal → place ≤ length clauses → IsGathered c gathered
 all_gathered c clauses place gathered is so_far le = record {
   no_includes = λ none. let count : length clauses ≡ 0 = ap length (is ∙ none) in so_far.none (omega (arith, le, count));
   of_change = subst (λ is. IfSome gathered.refusal (IsOfClause is)) is so_far.of_change;
@@ -269,7 +269,7 @@ module _ (classes : List Class) (c : Class) (conflict second : Option ℕ) (clas
 
 -- ---- the second clause with an array part
 
-pub second_array : (program : Program) (includes : List Include) (second : Option ℕ) → KnowsIncludes program → MatchOption second (count_by (brings_array (number_in program.includes.now.numbers) program.includes.now.arrays.items) includes ≤ 1) (IsSecond (brings_array (number_in program.includes.now.numbers) program.includes.now.arrays.items) includes) → MatchOption second (HasOneArray program.classes.now includes) (IsSecondArray program.classes.now includes)
+pub second_array : (program : IncludeProgram) (includes : List Include) (second : Option ℕ) → KnowsIncludes program → MatchOption second (count_by (brings_array (number_in program.includes.now.numbers) program.includes.now.arrays.items) includes ≤ 1) (IsSecond (brings_array (number_in program.includes.now.numbers) program.includes.now.arrays.items) includes) → MatchOption second (HasOneArray program.classes.now includes) (IsSecondArray program.classes.now includes)
 second_array program includes second knows found = by second found
   where
     same : number_in program.includes.now.numbers ≡ number_of program.classes.now

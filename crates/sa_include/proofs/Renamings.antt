@@ -8,10 +8,10 @@ use Rattle.std.specs.Cmp.Lexicographic.{pointwise, bytes_decides}
 use Rattle.std.specs.Option.{option_and_then, option_or}
 use Rattle.std.specs.Prelude.{is_some}
 use Rattle.indexmap.specs.IndexMap.{Updates}
-use Rattle.sa_tree.specs.declared.class.Change.{Change}
-use Rattle.sa_include.specs.declared.renamed.Renaming.{Renaming}
+use Rattle.sa_ast.specs.declared.class.FeatureModifier.{FeatureModifier}
+use Rattle.sa_include.specs.declared.renamings.Renaming.{Renaming}
 use Rattle.sa_include.specs.Changes.{AddsChange, HasChanges, place_in}
-use Rattle.sa_include.specs.Included.{change_of, name_after, name_brought}
+use Rattle.sa_include.specs.Included.{change_of, name_after, included_name}
 
 -- ---- one change
 
@@ -32,11 +32,11 @@ pub ruleset one_added = (was_there, is_new)
 
 -- ---- the changes up to a place
 
-pub record HasChangesUpTo (changes : List Change) (n : ℕ) (renaming : Renaming) : Type 0 where
+pub record HasChangesUpTo (changes : List FeatureModifier) (n : ℕ) (renaming : Renaming) : Type 0 where
   pub found : (name : List ℕ) → option_and_then (slice_get changes) (place_in renaming name) ≡ change_of (take n changes) name
   pub known : (name : List ℕ) → is_some (place_in renaming name) ≡ is_some (change_of (take n changes) name)
 
-pub no_changes : (changes : List Change) (renaming : Renaming) → ((name : List ℕ) → place_in renaming name ≡ None) → HasChangesUpTo changes 0 renaming
+pub no_changes : (changes : List FeatureModifier) (renaming : Renaming) → ((name : List ℕ) → place_in renaming name ≡ None) → HasChangesUpTo changes 0 renaming
 no_changes changes renaming none = record {
   found = λ name. ap (option_and_then (slice_get changes)) (none name);
   known = λ name. ap is_some (none name);
@@ -55,17 +55,17 @@ module _ {A : Type 0} where
   is_none None h = refl
   is_none (Some x) h = absurd (true≢false h)
 
-module _ (changes : List Change) (n : ℕ) (change : Change) (old new : Renaming) (within : n < length changes) (is : change ≡ get_or changes n change) (so_far : HasChangesUpTo changes n old) (adds : AddsChange change.from.name n old new) where
+module _ (changes : List FeatureModifier) (n : ℕ) (change : FeatureModifier) (old new : Renaming) (within : n < length changes) (is : change ≡ get_or changes n change) (so_far : HasChangesUpTo changes n old) (adds : AddsChange change.from.name n old new) where
   at : slice_get changes n ≡ Some change
   at = slice_get_read changes (length changes) n change refl within is
 
-  abbrev before : List ℕ → Option Change
+  abbrev before : List ℕ → Option FeatureModifier
   before other = change_of (take n changes) other
 
   next : (other : List ℕ) → change_of (take (n + 1) changes) other ≡ option_or (before other) (cond (pointwise nat_eq change.from.name other) (Some change) None)
   next other =
       ap (λ cs. change_of cs other) (take_more changes n change within ∙ ap (λ c. take n changes ++ c ∷ []) (sym is))
-      ∙ find-append (λ (c : Change). pointwise nat_eq c.from.name other) (take n changes) (change ∷ [])
+      ∙ find-append (λ (c : FeatureModifier). pointwise nat_eq c.from.name other) (take n changes) (change ∷ [])
 
   -- the name of the change has the same entry as the other name
   same_entry : (other : List ℕ) → pointwise nat_eq change.from.name other ≡ true → is_some (before other) ≡ is_some (place_in old change.from.name)
@@ -103,25 +103,25 @@ module _ (changes : List Change) (n : ℕ) (change : Change) (old new : Renaming
   pub change_more : HasChangesUpTo changes (n + 1) new
   change_more = record { found = λ name. (both name).0; known = λ name. (both name).1 }
 
-pub all_changes : (changes : List Change) (n : ℕ) (renaming : Renaming) → HasChangesUpTo changes n renaming → length changes ≤ n → HasChanges changes renaming
+pub all_changes : (changes : List FeatureModifier) (n : ℕ) (renaming : Renaming) → HasChangesUpTo changes n renaming → length changes ≤ n → HasChanges changes renaming
 all_changes changes n renaming upto le = record { found = λ name. upto.found name ∙ ap (λ cs. change_of cs name) (take_all n changes le) }
 
 pub ruleset changes_added = (no_changes, change_more, all_changes)
 
 -- ---- the name of a feature that is brought
 
-module _ (changes : List Change) (renaming : Renaming) (name : List ℕ) (found : Option ℕ) (has : HasChanges changes renaming) (is : found ≡ place_in renaming name) where
+module _ (changes : List FeatureModifier) (renaming : Renaming) (name : List ℕ) (found : Option ℕ) (has : HasChanges changes renaming) (is : found ≡ place_in renaming name) where
   -- the change that the table has
   change_is : (o : Option ℕ) → found ≡ o → change_of changes name ≡ option_and_then (slice_get changes) o
   change_is o e = sym (has.found name) ∙ ap (option_and_then (slice_get changes)) (sym is ∙ e)
 
-  pub no_change : found ≡ None → Some name ≡ name_brought changes name
+  pub no_change : found ≡ None → Some name ≡ included_name changes name
   no_change none = sym (ap (name_after name) (change_is None none))
 
-  pub no_change_there : (place : ℕ) → found ≡ Some place → slice_get changes place ≡ None → Some name ≡ name_brought changes name
+  pub no_change_there : (place : ℕ) → found ≡ Some place → slice_get changes place ≡ None → Some name ≡ included_name changes name
   no_change_there place some none = sym (ap (name_after name) (change_is (Some place) some ∙ none))
 
-  pub changed : (place : ℕ) (change : Change) (to : Option (List ℕ)) → found ≡ Some place → slice_get changes place ≡ Some change → change.to ≡ to → to ≡ name_brought changes name
+  pub changed : (place : ℕ) (change : FeatureModifier) (to : Option (List ℕ)) → found ≡ Some place → slice_get changes place ≡ Some change → change.to ≡ to → to ≡ included_name changes name
   changed place change to some at is_to = sym is_to ∙ sym (ap (name_after name) (change_is (Some place) some ∙ at))
 
 pub ruleset names = (no_change, no_change_there, changed)

@@ -1,12 +1,12 @@
 -- The classes are gone through, each behind those that it includes, until the first in text order is refused.
 use Rattle.std.proofs.Common.{◌≡◌, ℕ, zero, suc, ◌+◌, ◌<◌, ◌≤◌, true, false, List, [], ◌∷◌, ◌++◌, None, Some, length, set, slice_get, refl, sym, ap, subst, ◌∙◌, ◌⊎◌, inl, inr, arith}
 use Rattle.std.proofs.lemmas.Bool.{cases_eq, false≢true}
-use Rattle.sa_tree.specs.declared.class.Class.{Class}
-use Rattle.sa_tree.specs.declared.refusal.Refusal.{Refusal}
+use Rattle.sa_ast.specs.declared.class.Class.{Class}
+use Rattle.sa_ast.specs.declared.refusal.Refusal.{Refusal}
 use Rattle.sa_include.specs.Refusals.{AreAccepted, IsFirstRefusal, IsVerdict}
 use Rattle.sa_include.specs.Resolved.{AreDone, AreResolved, AreUndone, IsDone, IsGoneThrough, IsRefusedFrom, KnowsIncludes}
 use Rattle.sa_include.specs.declared.resolved.Flattened.{Flattened}
-use Rattle.sa_include.specs.declared.resolved.Program.{Program}
+use Rattle.sa_include.specs.declared.resolved.IncludeProgram.{IncludeProgram}
 use Rattle.sa_include_names.specs.Includes.{AreArrays}
 use Rattle.sa_include_names.specs.Tables.{HasNumbers}
 
@@ -33,7 +33,7 @@ module _ {A : Type 0} where
 
 -- ---- the includes of a program
 
-pub knows_includes : (program : Program) → HasNumbers program.classes.now program.includes.now.numbers → AreArrays program.classes.now program.includes.now.arrays.items → KnowsIncludes program
+pub knows_includes : (program : IncludeProgram) → HasNumbers program.classes.now program.includes.now.numbers → AreArrays program.classes.now program.includes.now.arrays.items → KnowsIncludes program
 knows_includes program numbers arrays = record { numbers = numbers; arrays = arrays }
 
 -- ---- none is gone through

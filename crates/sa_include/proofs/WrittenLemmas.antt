@@ -2,7 +2,7 @@
 use Rattle.std.proofs.Common.{◌≡◌, ℕ, ◌+◌, ◌<◌, List, [], ◌∷◌, ◌++◌, get_or, length, take, subst, inl, inr}
 use Rattle.std.specs.List.{All, Contains}
 use Rattle.std.proofs.lemmas.List.Elements.{All-more, All-weaker, Contains-append_left, Contains-push}
-use Rattle.sa_tree.specs.declared.class.Feature.{Feature}
+use Rattle.sa_ast.specs.declared.class.Feature.{Feature}
 use Rattle.sa_include.specs.Flattened.{Wins}
 
 wins_among_more : (features : List Feature) (more : Feature) (f : Feature) → Wins features f → Wins (features ++ more ∷ []) f

@@ -3,15 +3,15 @@ use Rattle.std.specs.Prelude.{◌≡◌, true, false, ℕ, List, Option, None, S
 use Rattle.std.specs.Cmp.Lexicographic.{pointwise}
 use Rattle.std.specs.Option.{option_and_then}
 use Rattle.indexmap.specs.IndexMap.{get}
-use Rattle.sa_tree.specs.declared.class.Change.{Change}
-use Rattle.sa_include.specs.declared.renamed.Renaming.{Renaming}
+use Rattle.sa_ast.specs.declared.class.FeatureModifier.{FeatureModifier}
+use Rattle.sa_include.specs.declared.renamings.Renaming.{Renaming}
 use Rattle.sa_include.specs.Included.{change_of}
 
 abbrev pub place_in : Renaming → List ℕ → Option ℕ
 place_in renaming name = get (pointwise nat_eq) renaming.first name
 
 -- the table has the place of the first of these changes of each name
-pub record HasChanges (changes : List Change) (renaming : Renaming) : Type 0 where
+pub record HasChanges (changes : List FeatureModifier) (renaming : Renaming) : Type 0 where
   pub found : (name : List ℕ) → option_and_then (slice_get changes) (place_in renaming name) ≡ change_of changes name
 
 -- a name has this place if it had none

@@ -3,12 +3,12 @@ use Rattle.std.specs.Prelude.{◌≡◌, ◌⊎◌, Bool, true, false, IsTrue, L
 use Rattle.std.specs.List.{All, AllZip, Contains}
 use Rattle.sa_include_conflicts.specs.Clashes.{NoneClash}
 use Rattle.sa_include_conflicts.specs.Stub.{is_stub_part, keeps_stub}
-use Rattle.sa_tree.specs.declared.class.Class.{Class}
-use Rattle.sa_tree.specs.declared.class.Feature.{Feature}
-use Rattle.sa_tree.specs.declared.class.Kind.{Kind}
-use Rattle.sa_tree.specs.declared.class.Kind.TheVariants.{Immutable}
+use Rattle.sa_ast.specs.declared.class.Class.{Class}
+use Rattle.sa_ast.specs.declared.class.Feature.{Feature}
+use Rattle.sa_ast.specs.declared.class.ClassKind.{ClassKind}
+use Rattle.sa_ast.specs.declared.class.ClassKind.TheVariants.{Immutable}
 
-abbrev pub is_immutable : Kind → Bool
+abbrev pub is_immutable : ClassKind → Bool
 is_immutable Immutable = true
 is_immutable _ = false
 

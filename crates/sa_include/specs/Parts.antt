@@ -1,17 +1,17 @@
 -- Features with each of the types that are written in them changed.
 use Rattle.std.specs.Prelude.{◌≡◌, ℕ, List, Option, None}
 use Rattle.std.specs.Option.{option_map}
-use Rattle.sa_tree.specs.declared.class.Part.{Part}
-use Rattle.sa_tree.specs.declared.class.Part.TheVariants as part
-use Rattle.sa_tree.specs.declared.pos.Pos.{Pos}
-use Rattle.sa_tree.specs.declared.ty.Ty.{Ty}
-use Rattle.sa_tree.specs.declared.ty.Ty.TheVariants as ty
+use Rattle.sa_ast.specs.declared.class.FeatureBody.{FeatureBody}
+use Rattle.sa_ast.specs.declared.class.FeatureBody.TheVariants as part
+use Rattle.sa_ast.specs.declared.pos.Pos.{Pos}
+use Rattle.sa_ast.specs.declared.ty.Ty.{Ty}
+use Rattle.sa_ast.specs.declared.ty.Ty.TheVariants as ty
 use Rattle.sa_types.specs.Table.{value_in}
 use Rattle.sa_types.specs.declared.substitution.Substitution.{Substitution}
-use Rattle.sa_instance.specs.Trees.{expr_with}
+use Rattle.sa_subst.specs.Trees.{expr_with}
 
 -- what a feature begins with changes, and statements stay
-abbrev pub part_with : (Ty → Ty) → Part → Part
+abbrev pub part_with : (Ty → Ty) → FeatureBody → FeatureBody
 part_with f (part.Shared value) = part.Shared (option_map (expr_with f) value)
 part_with f (part.Const value more) = part.Const (option_map (expr_with f) value) more
 part_with f other = other

@@ -1,24 +1,24 @@
 -- What the classes of a program are refused by for their includes.
 use Rattle.std.specs.Prelude.{◌≡◌, ◌⊎◌, ◌||◌, ◌<◌, Bool, ℕ, List, [], Option, None, Some, Contains, IfSome, MatchOption, is_some, slice_get}
 use Rattle.std.specs.Option.{option_map, option_or}
-use Rattle.sa_tree.specs.declared.class.Change.{Change}
-use Rattle.sa_tree.specs.declared.class.Class.{Class}
-use Rattle.sa_tree.specs.declared.class.Feature.{Feature}
-use Rattle.sa_tree.specs.declared.class.Include.{Include}
-use Rattle.sa_tree.specs.declared.pos.Pos.{Pos}
-use Rattle.sa_tree.specs.declared.refusal.Refusal.{Refusal}
-use Rattle.sa_tree.specs.declared.rule.Rule.{Rule}
-use Rattle.sa_tree.specs.declared.rule.Rule.TheVariants as rule
-use Rattle.sa_tree.specs.declared.ty.ModeTy.{ModeTy}
-use Rattle.sa_tree.specs.declared.ty.Ty.{Ty}
-use Rattle.sa_tree.specs.declared.ty.Ty.TheOpen.{Ty-F}
-use Rattle.sa_tree.specs.declared.ty.Ty.TheViews.{out-Ty}
+use Rattle.sa_ast.specs.declared.class.FeatureModifier.{FeatureModifier}
+use Rattle.sa_ast.specs.declared.class.Class.{Class}
+use Rattle.sa_ast.specs.declared.class.Feature.{Feature}
+use Rattle.sa_ast.specs.declared.class.Include.{Include}
+use Rattle.sa_ast.specs.declared.pos.Pos.{Pos}
+use Rattle.sa_ast.specs.declared.refusal.Refusal.{Refusal}
+use Rattle.sa_ast.specs.declared.rule.Rule.{Rule}
+use Rattle.sa_ast.specs.declared.rule.Rule.TheVariants as rule
+use Rattle.sa_ast.specs.declared.ty.ModeTy.{ModeTy}
+use Rattle.sa_ast.specs.declared.ty.Ty.{Ty}
+use Rattle.sa_ast.specs.declared.ty.Ty.TheOpen.{Ty-F}
+use Rattle.sa_ast.specs.declared.ty.Ty.TheViews.{out-Ty}
 use Rattle.sa_include.specs.Firsts.{do_brought_clash, left_stub, staying_features, written_conflict}
 use Rattle.sa_include_conflicts.specs.declared.features.ClassFeatures.{ClassFeatures}
 use Rattle.sa_include_names.specs.Includes.{HasOneArray, IsSecondArray}
 use Rattle.sa_include_names.specs.Refusals.{AreIncludesRight, RefusesNames}
 use Rattle.sa_include.specs.Flattened.{is_immutable}
-use Rattle.sa_include.specs.declared.clause.Gathered.{Gathered}
+use Rattle.sa_include.specs.declared.clause.CollectedFeatures.{CollectedFeatures}
 
 -- ---- one class
 
@@ -37,8 +37,8 @@ unfoldable pub type_pos : Ty → Pos
 type_pos t = pos_level (out-Ty t)
 
 -- E16, at the name of one of these changes
-pub record IsOfChange (changes : List Change) (refusal : Refusal) : Type 0 where
-  pub change : Change
+pub record IsOfChange (changes : List FeatureModifier) (refusal : Refusal) : Type 0 where
+  pub change : FeatureModifier
   pub has : Contains changes change
   pub is : refusal ≡ record { rule = rule.NoSuchIncludedFeature; pos = change.from.pos }
 
@@ -56,23 +56,23 @@ pub record IsOfType (clauses : List Include) (refusal : Refusal) : Type 0 where
 
 -- these are the features of a class, of which its includes bring none where it has no includes
 pub record HasFeatures (c : Class) (features : ClassFeatures) : Type 0 where
-  pub no_includes : c.includes ≡ [] → features.brought.now ≡ []
+  pub no_includes : c.includes ≡ [] → features.inherited.now ≡ []
   pub immutable : features.immutable ≡ is_immutable c.kind
   pub written : features.written.now ≡ c.features
 
 -- what the includes of a class bring, and the refusal of one of their changes
-pub record IsGathered (c : Class) (gathered : Gathered) : Type 0 where
+pub record IsGathered (c : Class) (gathered : CollectedFeatures) : Type 0 where
   pub no_includes : c.includes ≡ [] → gathered.features.items ≡ []
   pub of_change : IfSome gathered.refusal (IsOfClause c.includes)
 
 -- the first refusal of a class whose includes bring these features: that of a change (E16); else E11; else that of a clause (E17);
 -- else E22
 abbrev pub first_refusal : Class → List Feature → Option Refusal → Option Refusal → Option Refusal
-first_refusal c brought changes clauses =
+first_refusal c inherited changes clauses =
     option_or changes
-    (option_or (at_name rule.FeaturesConflict (written_conflict (is_immutable c.kind) brought c.features))
+    (option_or (at_name rule.FeaturesConflict (written_conflict (is_immutable c.kind) inherited c.features))
     (option_or clauses
-    (at_name rule.StubLeft (left_stub c.kind (staying_features (is_immutable c.kind) brought c.features)))))
+    (at_name rule.StubLeft (left_stub c.kind (staying_features (is_immutable c.kind) inherited c.features)))))
 
 -- E17 comes exactly where two of the brought features conflict, as is told, or two clauses bring an array part
 pub record IsClauseRefusal (classes : List Class) (c : Class) (conflict : Bool) (refusal : Option Refusal) : Type 0 where
@@ -84,14 +84,14 @@ pub record IsClauseRefusal (classes : List Class) (c : Class) (conflict : Bool) 
 -- this is the first refusal of a class of these, or it has none
 pub record IsVerdict (classes : List Class) (c : Class) (found : Option Refusal) : Type 0 where
   -- its includes bring these features
-  pub brought : List Feature
-  pub no_includes : c.includes ≡ [] → brought ≡ []
+  pub inherited : List Feature
+  pub no_includes : c.includes ≡ [] → inherited ≡ []
   pub changes : Option Refusal
   pub of_change : IfSome changes (IsOfClause c.includes)
   pub clauses : Option Refusal
-  pub of_clause : changes ≡ None → written_conflict (is_immutable c.kind) brought c.features ≡ None
-      → IsClauseRefusal classes c (do_brought_clash (is_immutable c.kind) brought c.features brought) clauses
-  pub is : found ≡ first_refusal c brought changes clauses
+  pub of_clause : changes ≡ None → written_conflict (is_immutable c.kind) inherited c.features ≡ None
+      → IsClauseRefusal classes c (do_brought_clash (is_immutable c.kind) inherited c.features inherited) clauses
+  pub is : found ≡ first_refusal c inherited changes clauses
 
 -- ---- all classes
 

@@ -1,15 +1,15 @@
 -- What is known of the classes of a program while their includes are gone through, each behind those that it includes.
 use Rattle.std.specs.Prelude.{◌≡◌, ◌<◌, ◌≤◌, true, false, ℕ, List, None, Some, slice_get}
-use Rattle.sa_tree.specs.declared.class.Class.{Class}
-use Rattle.sa_tree.specs.declared.refusal.Refusal.{Refusal}
+use Rattle.sa_ast.specs.declared.class.Class.{Class}
+use Rattle.sa_ast.specs.declared.refusal.Refusal.{Refusal}
 use Rattle.sa_include.specs.Refusals.{AreAccepted, IsVerdict}
 use Rattle.sa_include.specs.declared.resolved.Flattened.{Flattened}
-use Rattle.sa_include.specs.declared.resolved.Program.{Program}
+use Rattle.sa_include.specs.declared.resolved.IncludeProgram.{IncludeProgram}
 use Rattle.sa_include_names.specs.Includes.{AreArrays}
 use Rattle.sa_include_names.specs.Tables.{HasNumbers}
 
 -- the includes of a program are those of its classes
-pub record KnowsIncludes (program : Program) : Type 0 where
+pub record KnowsIncludes (program : IncludeProgram) : Type 0 where
   pub numbers : HasNumbers program.classes.now program.includes.now.numbers
   pub arrays : AreArrays program.classes.now program.includes.now.arrays.items
 

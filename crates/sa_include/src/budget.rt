@@ -1,7 +1,7 @@
 //! How much includes may bring in one program. A program in which includes double features or types at each step would
 //! else take memory that grows exponentially with its source.
 
-use sa_tree::NoMemory;
+use sa_ast::NoMemory;
 
 /// How many forms the includes of one program bring at most. An included feature counts eight, and each of its arguments
 /// and of the types written in its head counts one, as does each form of an initialiser. The statements,

@@ -5,7 +5,7 @@ ghost use Rattle.std.specs.Prelude.{◌≡◌, ◌||◌, IfOk, IfSome, is_some};
 ghost use Rattle.sa_include.specs.Firsts.{do_brought_clash, left_stub, staying_features, written_conflict};
 ghost use Rattle.sa_include_conflicts.specs.Sharing.{AreGrouped};
 ghost use Rattle.sa_include_conflicts.specs.Staying.{all_stay};
-ghost use Rattle.sa_tree.specs.declared.rule.Rule.TheVariants as rule;
+ghost use Rattle.sa_ast.specs.declared.rule.Rule.TheVariants as rule;
 ghost use Rattle.sa_include.specs.Refusals.{
   HasFeatures,
   IsClauseRefusal,
@@ -18,15 +18,16 @@ ghost use Rattle.sa_include.specs.Refusals.{
 };
 ghost use Rattle.sa_include.specs.Resolved.{KnowsIncludes};
 
-use crate::clause::{Gathered, gather};
-use crate::resolved::{Flattened, Program};
+use crate::clause::{CollectedFeatures, collect_features};
+use crate::resolved::{Flattened, IncludeProgram};
 use crate::substitute::Maker;
 use crate::whole::is_immutable;
+use sa_ast::{Class, ClassKind, Feature, NoMemory, Pos, Refusal, Rule, Ty};
 use sa_graph::entry;
 use sa_include_conflicts::{
-    ClassFeatures, Conflicts, first_conflict, group_features, is_set, item, staying, stub_left,
+    ClassFeatures, Conflicts, first_conflict, group_features, is_set, item, remaining_stub,
+    retained_features,
 };
-use sa_tree::{Class, Feature, Kind, NoMemory, Pos, Refusal, Rule, Ty};
 use sqlite_items::Items;
 use std::alloc::{AllocError, Global};
 
@@ -34,7 +35,7 @@ use std::alloc::{AllocError, Global};
 #[tactic(auto, using(crate::proofs::Refusing::verdicts_at))]
 pub(crate) fn flatten_class(
     alloc: Global,
-    program: &Program<'_>,
+    program: &IncludeProgram<'_>,
     resolved: &[Flattened],
     maker: &mut Maker<'_>,
     number: u32,
@@ -43,50 +44,50 @@ pub(crate) fn flatten_class(
     ensures { IfOk result (λ flattened. IsVerdictAt program.now.classes.now number flattened.refusal) }
 {
     let class = item(program.classes, number as usize)?;
-    let gathered = gather(alloc, program, resolved, maker, class)?;
-    let judged = judge(alloc, program, class, &gathered)?;
+    let gathered = collect_features(alloc, program, resolved, maker, class)?;
+    let judged = find_conflicts(alloc, program, class, &gathered)?;
     kept(alloc, gathered, judged)
 }
 
 /// Which features of a class stay, by their places, and its first refusal.
 #[derive(Drop)]
-struct Judged {
+struct ConflictVerdict {
     stays: Vec<bool>,
     refusal: Option<Refusal>,
 }
 
 /// Which features stay of those that the includes of a class bring and of those that it writes.
 #[tactic(auto, using(crate::proofs::Refusing::verdicts_at))]
-fn judge(
+fn find_conflicts(
     alloc: Global,
-    program: &Program<'_>,
+    program: &IncludeProgram<'_>,
     class: &Class,
-    gathered: &Gathered,
-) -> Result<Judged, NoMemory>
+    gathered: &CollectedFeatures,
+) -> Result<ConflictVerdict, NoMemory>
     requires includes { KnowsIncludes program.now }
     requires gathered { IsGathered class.now gathered.now }
     ensures { IfOk result (λ judged. IsVerdict program.now.classes.now class.now judged.refusal) }
 {
     let features = ClassFeatures {
-        brought: gathered.features.as_slice(),
+        inherited: gathered.features.as_slice(),
         written: class.features.as_slice(),
         immutable: is_immutable(class.kind),
     };
     let conflicts = group_features(alloc, &features)?;
-    let stays = staying(alloc, &features, &conflicts)?;
+    let stays = retained_features(alloc, &features, &conflicts)?;
     let refusal = first_refusal(
         alloc, program, class, gathered, &features, &conflicts, &stays,
     )?;
-    Ok(Judged { stays, refusal })
+    Ok(ConflictVerdict { stays, refusal })
 }
 
 /// The first refusal of a class with these features. That of a change comes before the others.
 #[tactic(auto, using(crate::proofs::Refusing::verdicts))]
 fn first_refusal(
     alloc: Global,
-    program: &Program<'_>,
+    program: &IncludeProgram<'_>,
     class: &Class,
-    gathered: &Gathered,
+    gathered: &CollectedFeatures,
     features: &ClassFeatures<'_>,
     conflicts: &Conflicts,
     stays: &[bool],
@@ -123,9 +124,9 @@ fn written_refused(
     requires grouped { AreGrouped features.now conflicts.now }
     requires stays { stays.now ≡ all_stay features.now }
     ensures { IfOk result (λ refusal. refusal ≡
-        at_name rule.FeaturesConflict (written_conflict features.now.immutable features.now.brought.now features.now.written.now)) }
+        at_name rule.FeaturesConflict (written_conflict features.now.immutable features.now.inherited.now features.now.written.now)) }
 {
-    let first = features.brought.len();
+    let first = features.inherited.len();
     let Some(place) = first_conflict(alloc, conflicts, stays, first, features.len())? else {
         return Ok(None);
     };
@@ -138,9 +139,9 @@ fn written_refused(
 #[tactic(auto, using(crate::proofs::Refusing::clauses_refused))]
 fn clause_refused(
     alloc: Global,
-    program: &Program<'_>,
+    program: &IncludeProgram<'_>,
     class: &Class,
-    gathered: &Gathered,
+    gathered: &CollectedFeatures,
     features: &ClassFeatures<'_>,
     conflicts: &Conflicts,
     stays: &[bool],
@@ -149,9 +150,9 @@ fn clause_refused(
     requires grouped { AreGrouped features.now conflicts.now }
     requires stays { stays.now ≡ all_stay features.now }
     ensures { IfOk result (IsClauseRefusal program.now.classes.now class.now
-        (do_brought_clash features.now.immutable features.now.brought.now features.now.written.now features.now.brought.now)) }
+        (do_brought_clash features.now.immutable features.now.inherited.now features.now.written.now features.now.inherited.now)) }
 {
-    let last = features.brought.len();
+    let last = features.inherited.len();
     let conflict = first_conflict(alloc, conflicts, stays, 0, last)?;
     let arrays = program
         .includes
@@ -185,15 +186,15 @@ fn refused_clause(
 /// The refusal of the first stub that is left.
 #[tactic(auto, using(crate::proofs::Refusing::stubs_left))]
 fn stub_refused(
-    kind: Kind,
+    kind: ClassKind,
     features: &ClassFeatures<'_>,
     stays: &[bool],
 ) -> Result<Option<Refusal>, NoMemory>
     requires { stays.now ≡ all_stay features.now }
     ensures { IfOk result (λ refusal. refusal ≡ at_name rule.StubLeft
-        (left_stub kind (staying_features features.now.immutable features.now.brought.now features.now.written.now))) }
+        (left_stub kind (staying_features features.now.immutable features.now.inherited.now features.now.written.now))) }
 {
-    match stub_left(kind, features, stays)? {
+    match remaining_stub(kind, features, stays)? {
         Some(pos) => Ok(Some(Rule::StubLeft.at(pos))),
         None => Ok(None),
     }
@@ -212,16 +213,20 @@ fn pos_of(ty: &Ty) -> Pos
 }
 
 /// What stays of the features of a class.
-fn kept(alloc: Global, gathered: Gathered, judged: Judged) -> Result<Flattened, NoMemory>
+fn kept(
+    alloc: Global,
+    gathered: CollectedFeatures,
+    judged: ConflictVerdict,
+) -> Result<Flattened, NoMemory>
     ensures { IfOk result (λ flattened. flattened.refusal ≡ judged.refusal) }
 {
-    let Gathered { features, open, .. } = gathered;
-    let Judged { stays, refusal } = judged;
+    let CollectedFeatures { features, open, .. } = gathered;
+    let ConflictVerdict { stays, refusal } = judged;
     let written = marks_from(alloc, &stays, features.len())?;
     let open = marks_of_staying(alloc, &stays, &open)?;
-    let brought = features_that_stay(alloc, features, &stays)?;
+    let inherited = features_that_stay(alloc, features, &stays)?;
     Ok(Flattened {
-        brought,
+        inherited,
         open,
         stays: written,
         refusal,

@@ -4,16 +4,16 @@ ghost use Rattle.std.specs.Prelude.{◌≡◌, IfOk, IfSome};
 ghost use Rattle.sa_include.specs.Included.{given_in};
 ghost use Rattle.sa_include.specs.Refusals.{IsGathered, IsOfChange};
 
-use crate::renamed::{Renaming, access_after, name_after};
-use crate::resolved::{Flattened, Program};
-use crate::substitute::{Included, Maker, Renamed, TypeArguments};
+use crate::renamings::{Renaming, access_after, name_after};
+use crate::resolved::{Flattened, IncludeProgram};
+use crate::substitute::{Included, Maker, RenamedFeature, TypeArguments};
+use sa_ast::{Class, Feature, Include, NoMemory, Refusal, Ty, held};
 use sa_include_conflicts::{is_set, item};
-use sa_tree::{Class, Feature, Include, NoMemory, Refusal, Ty, held};
 use std::alloc::Global;
 
 /// What the include clauses of a class bring, before anything is replaced.
 #[derive(Drop)]
-pub(crate) struct Gathered {
+pub(crate) struct CollectedFeatures {
     pub(crate) features: Vec<Feature>,
     /// For each of them whether its statements may write a parameter.
     pub(crate) open: Vec<bool>,
@@ -25,7 +25,7 @@ pub(crate) struct Gathered {
 
 /// The features that include clauses bring, one behind the other.
 #[derive(Drop)]
-struct Brought {
+struct IncludedFeatures {
     features: Vec<Feature>,
     open: Vec<bool>,
     clauses: Vec<usize>,
@@ -33,16 +33,16 @@ struct Brought {
 
 /// What the include clauses of a class bring.
 #[tactic(auto, using(crate::proofs::Refusing::gathering))]
-pub(crate) fn gather<'a>(
+pub(crate) fn collect_features<'a>(
     alloc: Global,
-    program: &Program<'a>,
+    program: &IncludeProgram<'a>,
     resolved: &'a [Flattened],
     maker: &mut Maker<'_>,
     class: &Class,
-) -> Result<Gathered, NoMemory>
+) -> Result<CollectedFeatures, NoMemory>
     ensures { IfOk result (IsGathered class.now) }
 {
-    let mut brought = Brought {
+    let mut inherited = IncludedFeatures {
         features: Vec::new(alloc),
         open: Vec::new(alloc),
         clauses: Vec::new(alloc),
@@ -52,15 +52,15 @@ pub(crate) fn gather<'a>(
     for (place, include) in class.includes.as_slice().iter().enumerate() {
         let included = held(program.includes.included(&include.ty))?;
         let source = source_of(program, resolved, included)?;
-        let wrong = bring_clause(alloc, &source, include, place, &same, maker, &mut brought)?;
+        let wrong = bring_clause(alloc, &source, include, place, &same, maker, &mut inherited)?;
         refusal = refusal.or(wrong);
     }
-    let Brought {
+    let IncludedFeatures {
         features,
         open,
         clauses,
-    } = brought;
-    Ok(Gathered {
+    } = inherited;
+    Ok(CollectedFeatures {
         features,
         open,
         clauses,
@@ -77,16 +77,16 @@ fn bring_clause(
     place: usize,
     same: &Ty,
     maker: &mut Maker<'_>,
-    brought: &mut Brought,
+    inherited: &mut IncludedFeatures,
 ) -> Result<Option<Refusal>, NoMemory>
     ensures { IfOk result (λ refusal. IfSome refusal (IsOfChange include.now.changes)) }
 {
     let mut clause = Clause::new(alloc, source.class, include, place, same)?;
-    clause.bring(alloc, source, maker, brought)?;
+    clause.bring(alloc, source, maker, inherited)?;
     Ok(clause.renaming.refused(include.changes.as_slice()))
 }
 
-impl Brought {
+impl IncludedFeatures {
     /// Puts a feature that a clause brings behind the others.
     fn add(&mut self, included: Included, clause: usize) -> Result<(), NoMemory> {
         let Included { feature, open } = included;
@@ -107,7 +107,7 @@ struct Source<'a> {
 }
 
 fn source_of<'a>(
-    program: &Program<'a>,
+    program: &IncludeProgram<'a>,
     resolved: &'a [Flattened],
     number: u32,
 ) -> Result<Source<'a>, NoMemory> {
@@ -153,14 +153,14 @@ impl<'a> Clause<'a> {
         alloc: Global,
         source: &Source<'_>,
         maker: &mut Maker<'_>,
-        brought: &mut Brought,
+        inherited: &mut IncludedFeatures,
     ) -> Result<(), NoMemory> {
         let flattened = source.flattened;
-        for (place, feature) in flattened.brought.as_slice().iter().enumerate() {
+        for (place, feature) in flattened.inherited.as_slice().iter().enumerate() {
             let open = is_set(&flattened.open, place);
-            self.bring_feature(alloc, feature, open, maker, brought)?;
+            self.bring_feature(alloc, feature, open, maker, inherited)?;
         }
-        self.bring_written(alloc, source, maker, brought)
+        self.bring_written(alloc, source, maker, inherited)
     }
 
     fn bring_written(
@@ -168,12 +168,12 @@ impl<'a> Clause<'a> {
         alloc: Global,
         source: &Source<'_>,
         maker: &mut Maker<'_>,
-        brought: &mut Brought,
+        inherited: &mut IncludedFeatures,
     ) -> Result<(), NoMemory> {
         for (place, feature) in source.class.features.as_slice().iter().enumerate() {
             if is_set(&source.flattened.stays, place) {
                 let open = is_set(source.open, place);
-                self.bring_feature(alloc, feature, open, maker, brought)?;
+                self.bring_feature(alloc, feature, open, maker, inherited)?;
             }
         }
         Ok(())
@@ -186,24 +186,28 @@ impl<'a> Clause<'a> {
         feature: &Feature,
         open: bool,
         maker: &mut Maker<'_>,
-        brought: &mut Brought,
+        inherited: &mut IncludedFeatures,
     ) -> Result<(), NoMemory> {
         let Some(renamed) = self.renamed(alloc, feature)? else {
             return Ok(());
         };
         let included = maker.include(alloc, feature, open, renamed, &self.arguments)?;
-        brought.add(included, self.place)
+        inherited.add(included, self.place)
     }
 
     /// What a feature is called in the including class and who sees it there, or None where a change leaves it out.
-    fn renamed(&mut self, alloc: Global, feature: &Feature) -> Result<Option<Renamed>, NoMemory> {
+    fn renamed(
+        &mut self,
+        alloc: Global,
+        feature: &Feature,
+    ) -> Result<Option<RenamedFeature>, NoMemory> {
         let changes = self.include.changes.as_slice();
         let change = self.renaming.change_of(&feature.name.name, changes)?;
         let Some(name) = name_after(alloc, change, &feature.name.name)? else {
             return Ok(None);
         };
         let access = access_after(self.include, change, feature.access);
-        Ok(Some(Renamed { name, access }))
+        Ok(Some(RenamedFeature { name, access }))
     }
 }
 

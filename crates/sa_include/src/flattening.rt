@@ -2,8 +2,8 @@
 
 ghost use Rattle.std.specs.Prelude.{◌≡◌, Err, IfOk, OnOk, length, slice_set};
 ghost use Rattle.std.specs.List.{All};
-ghost use Rattle.sa_tree.specs.declared.refusal.FrontFault.TheVariants.{Refused};
-ghost use Rattle.sa_tree.specs.declared.refusal.Refusal.{Refusal};
+ghost use Rattle.sa_ast.specs.declared.refusal.Rejection.TheVariants.{Refused};
+ghost use Rattle.sa_ast.specs.declared.refusal.Refusal.{Refusal};
 ghost use Rattle.sa_include.specs.Flattened.{AreFlattened, IsApart};
 ghost use Rattle.sa_include.specs.Included.{AreIncluded};
 ghost use Rattle.sa_include.specs.Refusals.{AreAccepted, IsFirstRefusal, RefusesIncludes};
@@ -12,16 +12,16 @@ ghost use Rattle.sa_include_names.specs.Includes.{AreArrays};
 ghost use Rattle.sa_include_names.specs.Refusals.{AreIncludesRight};
 ghost use Rattle.sa_include_names.specs.Tables.{HasNumbers};
 
-use crate::brought::try_whole;
 use crate::budget::Budget;
 use crate::class::flatten_class;
-use crate::resolved::{Flattened, Program};
+use crate::include_trial::try_whole;
+use crate::resolved::{Flattened, IncludeProgram};
 use crate::substitute::{Maker, is_open};
 use crate::weights::Weights;
 use crate::whole::whole_class;
+use sa_ast::{Class, Feature, FlatClass, NoMemory, Pos, Rejection, Ty, held};
 use sa_include_conflicts::item;
 use sa_include_names::Includes;
-use sa_tree::{Class, Feature, Flat, FrontFault, NoMemory, Pos, Ty, held};
 use sa_types::Substitution;
 use sqlite_items::Items;
 use std::alloc::Global;
@@ -36,7 +36,7 @@ use std::alloc::Global;
 /// then E15, then per class in text order E16, E11, E17 and E22; or `NoMemory`, also where the includes bring more than
 /// [`MOST_FORMS`](crate::MOST_FORMS).
 #[tactic(auto, using(crate::proofs::Refusing::refusing))]
-pub fn flatten(alloc: Global, classes: &[Class]) -> Result<Flat, FrontFault>
+pub fn flatten(alloc: Global, classes: &[Class]) -> Result<FlatClass, Rejection>
     ensures flattened { IfOk result (λ flat. AreFlattened classes.now flat.classes) }
     ensures apart { IfOk result (λ flat. All IsApart flat.classes) }
     ensures included { IfOk result (λ flat. AreIncluded classes.now flat.classes) }
@@ -48,7 +48,7 @@ pub fn flatten(alloc: Global, classes: &[Class]) -> Result<Flat, FrontFault>
     let resolved = resolved(alloc, classes, &includes)?;
     let whole = whole_classes(alloc, classes, resolved)?;
     try_whole(alloc, classes, whole.as_slice(), &includes)?;
-    Ok(Flat { classes: whole })
+    Ok(FlatClass { classes: whole })
 }
 
 /// The classes with their includes resolved, in the order of their numbers.
@@ -61,7 +61,7 @@ fn resolved(
     alloc: Global,
     classes: &[Class],
     includes: &Includes,
-) -> Result<Vec<Flattened>, FrontFault>
+) -> Result<Vec<Flattened>, Rejection>
     requires numbers { HasNumbers classes.now includes.now.numbers }
     requires arrays { AreArrays classes.now includes.now.arrays.items }
     ensures accepted { OnOk result (AreAccepted classes.now (length classes.now)) }
@@ -69,7 +69,7 @@ fn resolved(
 {
     let params = all_params(alloc, classes)?;
     let open = open_in_all(alloc, classes, &params)?;
-    let program = Program {
+    let program = IncludeProgram {
         classes,
         includes,
         open: open.as_slice(),
@@ -90,9 +90,9 @@ fn resolved(
 #[tactic(auto, using(crate::proofs::Resolving::resolving))]
 fn resolve(
     alloc: Global,
-    program: &Program<'_>,
+    program: &IncludeProgram<'_>,
     maker: &mut Maker<'_>,
-) -> Result<Vec<Flattened>, FrontFault>
+) -> Result<Vec<Flattened>, Rejection>
     requires { KnowsIncludes program.now }
     ensures accepted { OnOk result (AreAccepted program.now.classes.now (length program.now.classes.now)) }
     ensures refused { (refusal : Refusal) → result ≡ Err (Refused refusal) → IsFirstRefusal program.now.classes.now refusal }
@@ -105,7 +105,7 @@ fn resolve(
         accepted = accepted_up_to(resolved.as_slice(), accepted, program.classes.len())?;
     }
     if accepted < program.classes.len() {
-        return Err(FrontFault::NoMemory);
+        return Err(Rejection::NoMemory);
     }
     Ok(resolved)
 }
@@ -165,7 +165,7 @@ fn open_in(alloc: Global, features: &[Feature], params: &Weights) -> Result<Vec<
 /// The number of the first class from this one on that isn't gone through, or how many classes there are. The first class
 /// before it that has a refusal is refused.
 #[tactic(auto, using(crate::proofs::Resolving::accepting))]
-fn accepted_up_to(resolved: &[Flattened], from: usize, classes: usize) -> Result<usize, FrontFault>
+fn accepted_up_to(resolved: &[Flattened], from: usize, classes: usize) -> Result<usize, Rejection>
     ensures done { IfOk result (AreDone resolved.now from) }
     ensures refused { (refusal : Refusal) → result ≡ Err (Refused refusal) → IsRefusedFrom resolved.now from classes refusal }
 {
@@ -175,7 +175,7 @@ fn accepted_up_to(resolved: &[Flattened], from: usize, classes: usize) -> Result
             return Ok(number);
         }
         match flattened.refusal {
-            Some(refusal) => return Err(FrontFault::Refused(refusal)),
+            Some(refusal) => return Err(Rejection::Refused(refusal)),
             None => {}
         }
     }

@@ -1,12 +1,12 @@
 //! Includes: the classes of a program without their include clauses, each with all the features that it has.
 #![tactic(auto)]
 
-mod brought;
 mod budget;
 mod class;
 mod clause;
 mod flattening;
-mod renamed;
+mod include_trial;
+mod renamings;
 mod resolved;
 mod size;
 mod substitute;

@@ -2,8 +2,8 @@
 
 ghost use Rattle.std.specs.Prelude.{◌≡◌, false};
 
+use sa_ast::{Class, Feature, Refusal};
 use sa_include_names::Includes;
-use sa_tree::{Class, Feature, Refusal};
 use sqlite_items::Items;
 use std::alloc::Global;
 
@@ -11,7 +11,7 @@ use std::alloc::Global;
 #[derive(Drop)]
 pub(crate) struct Flattened {
     /// The features that its includes bring and that stay.
-    pub(crate) brought: Items<Feature>,
+    pub(crate) inherited: Items<Feature>,
     /// For each of them whether its statements may write a parameter.
     pub(crate) open: Vec<bool>,
     /// For each feature that the class writes whether it stays.
@@ -28,7 +28,7 @@ impl Flattened {
         ensures { result.done ≡ false }
     {
         Flattened {
-            brought: Items::new(alloc),
+            inherited: Items::new(alloc),
             open: Vec::new(alloc),
             stays: Vec::new(alloc),
             refusal: None,
@@ -39,7 +39,7 @@ impl Flattened {
 
 /// What the features of classes are found in.
 #[derive(Drop)]
-pub(crate) struct Program<'a> {
+pub(crate) struct IncludeProgram<'a> {
     pub(crate) classes: &'a [Class],
     pub(crate) includes: &'a Includes,
     /// For each class and each feature that it writes whether its statements may write a parameter.

@@ -3,7 +3,10 @@
 //! place.
 
 use crate::weights::{Size, Weights, size_of_bytes};
-use sa_tree::{Arm, CaseArm, Expr, Formal, Given, Local, ModeTy, Part, Recv, Stmt, Ty, TypeArm};
+use sa_ast::{
+    BranchArm, CaseArm, Expr, ExprArg, ExprReceiver, FeatureBody, FormalParam, Local, ModeTy, Stmt,
+    Ty, TypeArm,
+};
 use sqlite_items::Boxed;
 
 /// The size of a type.
@@ -62,7 +65,7 @@ pub(crate) fn size_of_optional_type(ty: &Option<Ty>, weights: &Weights) -> Size 
     }
 }
 
-pub(crate) fn size_of_formals(formals: &[Formal], weights: &Weights) -> Size {
+pub(crate) fn size_of_formals(formals: &[FormalParam], weights: &Weights) -> Size {
     let mut size = Size::ZERO;
     for formal in formals {
         size = size
@@ -85,10 +88,10 @@ fn size_of_locals(locals: &[Local]) -> Size {
 }
 
 /// The size of what a feature starts with: the value of a shared or of a constant.
-pub(crate) fn size_of_value(part: &Part, weights: &Weights) -> Size {
+pub(crate) fn size_of_value(part: &FeatureBody, weights: &Weights) -> Size {
     match part {
-        Part::Shared(value) => size_of_optional_expr(value, weights),
-        Part::Const(value, _) => size_of_optional_expr(value, weights),
+        FeatureBody::Shared(value) => size_of_optional_expr(value, weights),
+        FeatureBody::Const(value, _) => size_of_optional_expr(value, weights),
         _ => Size::ZERO,
     }
 }
@@ -100,7 +103,7 @@ fn size_of_expr(e: &Expr, weights: &Weights) -> Size {
         Expr::Int(_, _) => Size::ONE,
         Expr::Bool(_, _) => Size::ONE,
         Expr::Char(_, _) => Size::ONE,
-        Expr::Me(_) => Size::ONE,
+        Expr::SelfRef(_) => Size::ONE,
         Expr::Void(_) => Size::ONE,
         Expr::Exception(_) => Size::ONE,
         Expr::Text(text, _) => Size::ONE.plus(size_of_bytes(text)),
@@ -153,16 +156,16 @@ fn size_of_boxed(e: &Option<Boxed<Expr>>, weights: &Weights) -> Size {
 }
 
 #[cycle(exprs)]
-fn size_of_recv(recv: &Recv, weights: &Weights) -> Size {
+fn size_of_recv(recv: &ExprReceiver, weights: &Weights) -> Size {
     match recv {
-        Recv::Implied => Size::ZERO,
-        Recv::Of(e) => size_of_expr(e.get(), weights),
-        Recv::OfClass(ty) => size_of_type(ty, weights),
+        ExprReceiver::Implied => Size::ZERO,
+        ExprReceiver::Of(e) => size_of_expr(e.get(), weights),
+        ExprReceiver::OfClass(ty) => size_of_type(ty, weights),
     }
 }
 
 #[cycle(exprs)]
-fn size_of_givens(list: &[Given], weights: &Weights) -> Size {
+fn size_of_givens(list: &[ExprArg], weights: &Weights) -> Size {
     let mut size = Size::ZERO;
     for given in list {
         size = size.plus(size_of_given(given, weights));
@@ -171,10 +174,10 @@ fn size_of_givens(list: &[Given], weights: &Weights) -> Size {
 }
 
 #[cycle(exprs)]
-fn size_of_given(given: &Given, weights: &Weights) -> Size {
+fn size_of_given(given: &ExprArg, weights: &Weights) -> Size {
     match given {
-        Given::Value(_, e) => size_of_expr(e, weights),
-        Given::Left(ty, _) => Size::ONE.plus(size_of_optional_type(ty, weights)),
+        ExprArg::Value(_, e) => size_of_expr(e, weights),
+        ExprArg::Unbound(ty, _) => Size::ONE.plus(size_of_optional_type(ty, weights)),
     }
 }
 
@@ -237,7 +240,7 @@ fn size_of_stmt(stmt: &Stmt, weights: &Weights) -> Size {
         Stmt::Quit(_) => Size::ONE,
         Stmt::Raise(value, _) => Size::ONE.plus(size_of_expr(value, weights)),
         Stmt::Assert(test, _) => Size::ONE.plus(size_of_expr(test, weights)),
-        Stmt::Do(e) => Size::ONE.plus(size_of_expr(e, weights)),
+        Stmt::ExprStmt(e) => Size::ONE.plus(size_of_expr(e, weights)),
     }
 }
 
@@ -252,7 +255,7 @@ pub(crate) fn size_of_stmts(list: &[Stmt], weights: &Weights) -> Size {
 }
 
 #[cycle(stmts)]
-fn size_of_arms(arms: &[Arm], weights: &Weights) -> Size {
+fn size_of_arms(arms: &[BranchArm], weights: &Weights) -> Size {
     let mut size = Size::ZERO;
     for arm in arms {
         size = size

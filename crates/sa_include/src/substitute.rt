@@ -4,7 +4,7 @@
 ghost use Rattle.std.specs.Prelude.{◌≡◌, IfOk};
 ghost use Rattle.std.specs.Option.{option_map};
 ghost use Rattle.sa_types.specs.Table.{put_in};
-ghost use Rattle.sa_instance.specs.Trees.{expr_with};
+ghost use Rattle.sa_subst.specs.Trees.{expr_with};
 ghost use Rattle.sa_include.specs.Parts.{part_with};
 
 use crate::budget::{Budget, FEATURE_FORMS};
@@ -12,10 +12,11 @@ use crate::size::{
     size_of_formals, size_of_optional_type, size_of_stmts, size_of_type, size_of_value,
 };
 use crate::weights::{Weights, size_of_bytes};
-use sa_instance::{subst_expr, subst_stmts};
-use sa_tree::{
-    Access, Body, Expr, Feature, Formal, Local, Name, NoMemory, Param, Part, Shared, Ty,
+use sa_ast::{
+    Access, Body, Expr, Feature, FeatureBody, FormalParam, Local, Name, NoMemory, Shared, Ty,
+    TypeParam,
 };
+use sa_subst::{subst_expr, subst_stmts};
 use sa_types::{Substitution, subst_with};
 use sqlite_items::Items;
 use std::alloc::Global;
@@ -34,7 +35,7 @@ impl<'a> TypeArguments<'a> {
     /// dropped. SAME stays as it is, and means the including class then.
     pub(crate) fn new(
         alloc: Global,
-        params: &[Param],
+        params: &[TypeParam],
         given: &'a [Ty],
         same: &'a Ty,
     ) -> Result<TypeArguments<'a>, NoMemory> {
@@ -49,7 +50,7 @@ impl<'a> TypeArguments<'a> {
 }
 
 /// How many forms stand for each parameter with a given type: those of that type.
-fn weights_of(alloc: Global, params: &[Param], given: &[Ty]) -> Result<Weights, NoMemory> {
+fn weights_of(alloc: Global, params: &[TypeParam], given: &[Ty]) -> Result<Weights, NoMemory> {
     let none = Weights::new(alloc);
     let mut weights = Weights::new(alloc);
     for (place, param) in params.iter().enumerate() {
@@ -62,7 +63,7 @@ fn weights_of(alloc: Global, params: &[Param], given: &[Ty]) -> Result<Weights, 
 }
 
 /// Whether a given type isn't the parameter that it stands for.
-fn has_change(params: &[Param], given: &[Ty]) -> bool {
+fn has_change(params: &[TypeParam], given: &[Ty]) -> bool {
     for (place, param) in params.iter().enumerate() {
         let Some(ty) = given.get(place) else {
             return false;
@@ -85,7 +86,7 @@ fn is_named(ty: &Ty, name: &Name) -> bool {
 /// Whether the statements of a feature write one of these parameters.
 pub(crate) fn is_open(feature: &Feature, params: &Weights) -> bool {
     match &feature.part {
-        Part::Routine(body) => size_of_stmts(body.get().as_slice(), params).has_params,
+        FeatureBody::Routine(body) => size_of_stmts(body.get().as_slice(), params).has_params,
         _ => false,
     }
 }
@@ -102,13 +103,13 @@ fn forms_of_head(feature: &Feature, name: &Name, weights: &Weights) -> u64 {
 /// A part of a feature in an including class, and whether its statements may write a parameter of some class.
 #[derive(Drop)]
 struct IncludedPart {
-    part: Part,
+    part: FeatureBody,
     open: bool,
 }
 
 /// What a feature is called in an including class, and who sees it there.
 #[derive(Drop)]
-pub(crate) struct Renamed {
+pub(crate) struct RenamedFeature {
     pub(crate) name: Name,
     pub(crate) access: Access,
 }
@@ -139,7 +140,7 @@ impl<'a> Maker<'a> {
         alloc: Global,
         feature: &Feature,
         open: bool,
-        renamed: Renamed,
+        renamed: RenamedFeature,
         arguments: &TypeArguments<'_>,
     ) -> Result<Included, NoMemory> {
         self.budget
@@ -154,12 +155,12 @@ impl<'a> Maker<'a> {
     fn part(
         &mut self,
         alloc: Global,
-        part: &Part,
+        part: &FeatureBody,
         open: bool,
         arguments: &TypeArguments<'_>,
     ) -> Result<IncludedPart, NoMemory> {
         if open && arguments.changes {
-            if let Part::Routine(body) = part {
+            if let FeatureBody::Routine(body) = part {
                 return self.routine(alloc, body, arguments);
             }
         }
@@ -177,13 +178,13 @@ impl<'a> Maker<'a> {
         let list = body.get().as_slice();
         let size = size_of_stmts(list, &arguments.weights);
         if !size.has_params {
-            let part = Part::Routine(body.share()?);
+            let part = FeatureBody::Routine(body.share()?);
             return Ok(IncludedPart { part, open: true });
         }
         self.budget.take(size.forms)?;
         let copy = subst_stmts(alloc, list, &arguments.by)?;
         let open = size_of_stmts(copy.as_slice(), self.params).has_params;
-        let part = Part::Routine(Shared::new(alloc, copy)?);
+        let part = FeatureBody::Routine(Shared::new(alloc, copy)?);
         Ok(IncludedPart { part, open })
     }
 }
@@ -192,13 +193,13 @@ impl<'a> Maker<'a> {
 fn with_part(
     alloc: Global,
     feature: &Feature,
-    renamed: Renamed,
-    part: Part,
+    renamed: RenamedFeature,
+    part: FeatureBody,
     by: &Substitution<'_>,
 ) -> Result<Feature, NoMemory> {
     let formals = subst_formals(alloc, feature.formals.as_slice(), by)?;
     let result = subst_optional_type(alloc, &feature.result, by)?;
-    let Renamed { name, access } = renamed;
+    let RenamedFeature { name, access } = renamed;
     Ok(Feature {
         name: Local {
             name,
@@ -214,22 +215,25 @@ fn with_part(
 /// A part of a feature with types put in. Statements are shared, as they are.
 pub(crate) fn subst_part(
     alloc: Global,
-    part: &Part,
+    part: &FeatureBody,
     by: &Substitution<'_>,
-) -> Result<Part, NoMemory>
+) -> Result<FeatureBody, NoMemory>
     ensures { IfOk result (λ copy. copy ≡ part_with (put_in by.now) part.now) }
 {
     match part {
-        Part::Routine(body) => Ok(Part::Routine(body.share()?)),
-        Part::Signature => Ok(Part::Signature),
-        Part::Stub => Ok(Part::Stub),
-        Part::Builtin(class, feature) => {
+        FeatureBody::Routine(body) => Ok(FeatureBody::Routine(body.share()?)),
+        FeatureBody::Signature => Ok(FeatureBody::Signature),
+        FeatureBody::Stub => Ok(FeatureBody::Stub),
+        FeatureBody::Builtin(class, feature) => {
             let class = class.copy(alloc)?;
-            Ok(Part::Builtin(class, feature.copy(alloc)?))
+            Ok(FeatureBody::Builtin(class, feature.copy(alloc)?))
         }
-        Part::Attr => Ok(Part::Attr),
-        Part::Shared(e) => Ok(Part::Shared(subst_optional_expr(alloc, e, by)?)),
-        Part::Const(e, more) => Ok(Part::Const(subst_optional_expr(alloc, e, by)?, *more)),
+        FeatureBody::Attr => Ok(FeatureBody::Attr),
+        FeatureBody::Shared(e) => Ok(FeatureBody::Shared(subst_optional_expr(alloc, e, by)?)),
+        FeatureBody::Const(e, more) => Ok(FeatureBody::Const(
+            subst_optional_expr(alloc, e, by)?,
+            *more,
+        )),
     }
 }
 
@@ -249,9 +253,9 @@ fn subst_optional_expr(
 /// The arguments of a feature with types put in.
 fn subst_formals(
     alloc: Global,
-    formals: &[Formal],
+    formals: &[FormalParam],
     by: &Substitution<'_>,
-) -> Result<Items<Formal>, NoMemory> {
+) -> Result<Items<FormalParam>, NoMemory> {
     let mut copies = Items::new(alloc);
     for formal in formals {
         copies.push(subst_formal(alloc, formal, by)?)?;
@@ -259,10 +263,14 @@ fn subst_formals(
     Ok(copies)
 }
 
-fn subst_formal(alloc: Global, formal: &Formal, by: &Substitution<'_>) -> Result<Formal, NoMemory> {
+fn subst_formal(
+    alloc: Global,
+    formal: &FormalParam,
+    by: &Substitution<'_>,
+) -> Result<FormalParam, NoMemory> {
     let name = formal.local.name.copy(alloc)?;
     let ty = subst_with(alloc, &formal.ty, by)?;
-    Ok(Formal {
+    Ok(FormalParam {
         mode: formal.mode,
         local: Local {
             name,

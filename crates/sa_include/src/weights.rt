@@ -1,7 +1,7 @@
 //! How many forms there are, and how many stand for each parameter.
 
 use indexmap::IndexMap;
-use sa_tree::{Name, NoMemory, Param};
+use sa_ast::{Name, NoMemory, TypeParam};
 use std::alloc::Global;
 
 /// How many forms a tree has, and whether it writes one of the parameters that were looked for.
@@ -53,7 +53,12 @@ impl Weights {
     }
 
     /// Gives a parameter its forms where it has none yet: the first of two parameters with one name counts.
-    pub(crate) fn add(&mut self, alloc: Global, param: &Param, forms: u64) -> Result<(), NoMemory> {
+    pub(crate) fn add(
+        &mut self,
+        alloc: Global,
+        param: &TypeParam,
+        forms: u64,
+    ) -> Result<(), NoMemory> {
         let name = &param.name.name;
         if self.by_name.get(name).is_some() {
             return Ok(());
@@ -63,7 +68,7 @@ impl Weights {
     }
 
     /// Gives each of these parameters one form where it has none yet.
-    pub(crate) fn add_all(&mut self, alloc: Global, params: &[Param]) -> Result<(), NoMemory> {
+    pub(crate) fn add_all(&mut self, alloc: Global, params: &[TypeParam]) -> Result<(), NoMemory> {
         for param in params {
             self.add(alloc, param, 1)?;
         }

@@ -9,8 +9,8 @@ ghost use Rattle.sa_include.specs.Parts.{PutsNothing};
 
 use crate::resolved::Flattened;
 use crate::substitute::subst_part;
+use sa_ast::{Class, ClassKind, Feature, FormalParam, Local, NoMemory, Ty, TypeParam};
 use sa_include_conflicts::{is_set, is_stub, keeps_stub};
-use sa_tree::{Class, Feature, Formal, Kind, Local, NoMemory, Param, Ty};
 use sa_types::Substitution;
 use sqlite_items::Items;
 use std::alloc::{AllocError, Global};
@@ -25,9 +25,13 @@ pub(crate) fn whole_class(
     requires { PutsNothing nothing.now }
     ensures { IfOk result (λ flat. IsFlattened class.now flat) }
 {
-    let Flattened { brought, stays, .. } = flattened;
+    let Flattened {
+        inherited,
+        stays,
+        ..
+    } = flattened;
     let written = class.features.as_slice();
-    let features = with_written(alloc, brought, written, &stays, nothing)?;
+    let features = with_written(alloc, inherited, written, &stays, nothing)?;
     try_stubs(class.kind, features.as_slice())?;
     Ok(Class {
         kind: class.kind,
@@ -41,7 +45,7 @@ pub(crate) fn whole_class(
 }
 
 /// Tries that a class of this kind has no stub, unless it is partial. A class that has one has been refused.
-fn try_stubs(kind: Kind, features: &[Feature]) -> Result<(), NoMemory>
+fn try_stubs(kind: ClassKind, features: &[Feature]) -> Result<(), NoMemory>
     ensures { OnOk result (keeps_stub kind features.now ≡ false) }
 {
     if keeps_stub(kind, features) {
@@ -50,21 +54,21 @@ fn try_stubs(kind: Kind, features: &[Feature]) -> Result<(), NoMemory>
     Ok(())
 }
 
-pub(crate) fn is_immutable(kind: Kind) -> bool
+pub(crate) fn is_immutable(kind: ClassKind) -> bool
     ensures { result ≡ is_immutable kind }
 {
     match kind {
-        Kind::Reference => false,
-        Kind::Immutable => true,
-        Kind::Abstract => false,
-        Kind::Partial => false,
+        ClassKind::Reference => false,
+        ClassKind::Immutable => true,
+        ClassKind::Abstract => false,
+        ClassKind::Partial => false,
     }
 }
 
 /// The features that the includes of a class bring, and behind them those that it writes, but for its stubs that don't stay.
 fn with_written(
     alloc: Global,
-    brought: Items<Feature>,
+    inherited: Items<Feature>,
     written: &[Feature],
     stays: &[bool],
     nothing: &Substitution<'_>,
@@ -72,7 +76,7 @@ fn with_written(
     requires { PutsNothing nothing.now }
     ensures { IfOk result (λ features. All (Wins features) written.now) }
 {
-    let mut features = brought;
+    let mut features = inherited;
     for (place, feature) in written.iter().enumerate() {
         if is_replaced_stub(feature, is_set(stays, place)) {
             continue;
@@ -117,26 +121,26 @@ fn copy_local(alloc: Global, local: &Local) -> Result<Local, AllocError>
     })
 }
 
-fn copy_params(alloc: Global, params: &[Param]) -> Result<Items<Param>, AllocError>
+fn copy_params(alloc: Global, params: &[TypeParam]) -> Result<Items<TypeParam>, AllocError>
     ensures { IfOk result (λ copies. copies ≡ params.now) }
 {
     let mut copies = Items::new(alloc);
     for param in params {
         let name = copy_local(alloc, &param.name)?;
         let bound = copy_optional_type(alloc, &param.bound)?;
-        copies.push(Param { name, bound })?;
+        copies.push(TypeParam { name, bound })?;
     }
     Ok(copies)
 }
 
-fn copy_formals(alloc: Global, formals: &[Formal]) -> Result<Items<Formal>, AllocError>
+fn copy_formals(alloc: Global, formals: &[FormalParam]) -> Result<Items<FormalParam>, AllocError>
     ensures { IfOk result (λ copies. copies ≡ formals.now) }
 {
     let mut copies = Items::new(alloc);
     for formal in formals {
         let local = copy_local(alloc, &formal.local)?;
         let ty = formal.ty.copy(alloc)?;
-        copies.push(Formal {
+        copies.push(FormalParam {
             mode: formal.mode,
             local,
             ty,

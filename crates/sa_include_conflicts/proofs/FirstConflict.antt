@@ -3,7 +3,7 @@ use Rattle.std.proofs.Common.{◌≡◌, ◌↔◌, ℕ, ◌+◌, ◌<◌, ◌�
 use Rattle.std.proofs.lemmas.Bool.{false≢true}
 use Rattle.sa_include_conflicts.specs.declared.conflicts.Conflicts.{Conflicts}
 use Rattle.sa_include_conflicts.specs.declared.groups.Groups.{Groups}
-use Rattle.sa_include_conflicts.specs.declared.groups.Marks.{Marks}
+use Rattle.sa_include_conflicts.specs.declared.groups.Visited.{Visited}
 use Rattle.sa_include_conflicts.specs.Sharing.{AddsGroups, HasGroup, IsFirstConflict, IsInConflict, NoConflict, NoneMarked, StaysWith, groups_at, has_marked, is_marked, is_set}
 use Rattle.sa_include_conflicts.proofs.Marking.{marked_one, unmarked}
 
@@ -18,11 +18,11 @@ module _ (conflicts : Conflicts) (stays : List Bool) (from : ℕ) where
     pub has : HasGroup groups group
 
   -- these are marked, and there was no conflict
-  pub record SoFar (place : ℕ) (marks : Marks) : Type 0 where
+  pub record SoFar (place : ℕ) (marks : Visited) : Type 0 where
     pub marked : (group : ℕ) → (is_marked marks group ≡ true) ↔ IsTaken place group
     pub none : NoConflict conflicts stays from place
 
-  pub nothing_so_far : (marks : Marks) → NoneMarked marks → SoFar from marks
+  pub nothing_so_far : (marks : Visited) → NoneMarked marks → SoFar from marks
   nothing_so_far marks unset = record {
     marked = λ group. (λ h. absurd (false≢true (sym (unset.none group) ∙ h)), λ t. absurd (omega (arith, t.after, t.before)));
     none = record { none = λ place lt h. absurd (omega (arith, lt, h.after, h.before)) };
@@ -50,7 +50,7 @@ module _ (conflicts : Conflicts) (stays : List Bool) (from : ℕ) where
 
   -- ---- a feature that doesn't stay
 
-  pub passed_over : (place : ℕ) (marks : Marks) (set : Bool) → SoFar place marks → set ≡ is_set stays place → set ≡ false → SoFar (place + 1) marks
+  pub passed_over : (place : ℕ) (marks : Visited) (set : Bool) → SoFar place marks → set ≡ is_set stays place → set ≡ false → SoFar (place + 1) marks
   passed_over place marks set so_far is unset = record {
     marked = λ group. (λ h. later place group ((so_far.marked group).0 h), λ t. by group t (near t.earlier place t.before));
     none = next_none place so_far.none (λ h. gone h.here.kept);
@@ -65,7 +65,7 @@ module _ (conflicts : Conflicts) (stays : List Bool) (from : ℕ) where
 
   -- ---- one that does
 
-  module _ (place : ℕ) (marks : Marks) (groups : Groups) (set has : Bool) (so_far : SoFar place marks) (is : set ≡ is_set stays place) (known : set ≡ true) (at : groups_at conflicts place ≡ Some groups) (tested : has ≡ has_marked groups marks) where
+  module _ (place : ℕ) (marks : Visited) (groups : Groups) (set has : Bool) (so_far : SoFar place marks) (is : set ≡ is_set stays place) (known : set ≡ true) (at : groups_at conflicts place ≡ Some groups) (tested : has ≡ has_marked groups marks) where
     here : StaysWith conflicts stays place groups
     here = record { at = at; kept = sym is ∙ known }
 
@@ -75,7 +75,7 @@ module _ (conflicts : Conflicts) (stays : List Bool) (from : ℕ) where
         one : Some others ≡ Some groups → others ≡ groups
         one q = cc
 
-    pub taken_too : (new : Marks) → has ≡ false → AddsGroups groups marks new → from ≤ place → SoFar (place + 1) new
+    pub taken_too : (new : Visited) → has ≡ false → AddsGroups groups marks new → from ≤ place → SoFar (place + 1) new
     taken_too new unset adds after = record {
       marked = λ group. (λ h. ⊎_elim (λ q. later place group ((so_far.marked group).0 q)) (λ q. own group q) ((adds.exactly group).0 h), λ t. by group t (near t.earlier place t.before));
       none = next_none place so_far.none free;
@@ -119,7 +119,7 @@ module _ (conflicts : Conflicts) (stays : List Bool) (from : ℕ) where
         taken : IsTaken place one.0
         taken = (so_far.marked one.0).0 one.2
 
-  pub no_conflict : (place to : ℕ) (marks : Marks) → SoFar place marks → to ≤ place → NoConflict conflicts stays from to
+  pub no_conflict : (place to : ℕ) (marks : Visited) → SoFar place marks → to ≤ place → NoConflict conflicts stays from to
   no_conflict place to marks so_far le = record { none = λ n lt h. so_far.none.none n (omega (arith, lt, le)) h }
 
 pub ruleset conflicting = (nothing_so_far, passed_over, taken_too, conflict_here, no_conflict)

@@ -10,16 +10,16 @@ use Rattle.std.proofs.lemmas.Slice.Zip.{AllZip-long, all_zipped_more}
 use Rattle.std.specs.List.{AllZip, list_any, position_or_len}
 use Rattle.std.specs.Option.{option_map, option_map_or}
 use Rattle.indexmap.specs.IndexSet.{insert_key}
-use Rattle.sa_tree.specs.declared.class.Feature.{Feature}
+use Rattle.sa_ast.specs.declared.class.Feature.{Feature}
 use Rattle.sa_types.specs.declared.sig.Sig.{Sig}
-use Rattle.sa_signatures.specs.Conflict.{do_conflict}
+use Rattle.sa_overload.specs.Conflict.{do_conflict}
 use Rattle.sa_include_conflicts.specs.declared.conflicts.Conflicts.{Conflicts}
 use Rattle.sa_include_conflicts.specs.declared.conflicts.Grouping.{Grouping}
 use Rattle.sa_include_conflicts.specs.declared.features.ClassFeatures.{ClassFeatures}
 use Rattle.sa_include_conflicts.specs.declared.groups.Groups.{Groups}
 use Rattle.sa_include_conflicts.specs.Clashes.{do_clash, meets}
-use Rattle.sa_include_conflicts.specs.Known.{IsGroupOf, IsGrouped, IsGroupedBy, group_number}
-use Rattle.sa_include_conflicts.specs.Shapes.{conflict_equiv}
+use Rattle.sa_include_conflicts.specs.KnownSignatures.{IsGroupOf, IsGrouped, IsGroupedBy, group_number}
+use Rattle.sa_include_conflicts.specs.SignatureKeys.{conflict_equiv}
 use Rattle.sa_include_conflicts.specs.Sharing.{AreGrouped, HasGroup, HaveCommon, all_features}
 use Rattle.sa_include_conflicts.specs.Signatures.{own_signature, writer_signature}
 

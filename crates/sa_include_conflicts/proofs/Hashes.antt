@@ -3,8 +3,8 @@ use Rattle.std.proofs.Common.{◌≡◌, ℕ, ◌+◌, ◌<◌, List, length, ge
 use Rattle.std.proofs.lemmas.Grind.{fold-append}
 use Rattle.std.proofs.lemmas.List.{drop_all}
 use Rattle.std.specs.Prelude.{flat_map}
-use Rattle.sa_tree.specs.declared.ty.ModeTy.{ModeTy}
-use Rattle.sa_include_conflicts.specs.Shapes.{argument_writes}
+use Rattle.sa_ast.specs.declared.ty.ModeTy.{ModeTy}
+use Rattle.sa_include_conflicts.specs.SignatureKeys.{argument_writes}
 
 pub arguments-drop : (args : List ModeTy) (i : ℕ) (arg : ModeTy) → i < length args → arg ≡ get_or args i arg → flat_map argument_writes (drop i args) ≡ argument_writes arg ++ flat_map argument_writes (drop (i + 1) args)
 arguments-drop args i arg h e = rw (add-one, drop-cons args i arg, ← e)

@@ -2,9 +2,9 @@
 use Rattle.std.proofs.Common.{◌≡◌, ℕ, ◌+◌, ◌<◌, ◌≤◌, Bool, true, false, ◌&&◌, List, Some, length, slice_get, refl, sym, ap, ◌∙◌, ◌⊎◌, inl, inr, arith}
 use Rattle.std.proofs.lemmas.Bool.{false≢true, true≢false}
 use Rattle.std.proofs.lemmas.Option.{slice_get_within}
-use Rattle.sa_tree.specs.declared.class.Feature.{Feature}
-use Rattle.sa_tree.specs.declared.class.Kind.{Kind}
-use Rattle.sa_tree.specs.declared.pos.Pos.{Pos}
+use Rattle.sa_ast.specs.declared.class.Feature.{Feature}
+use Rattle.sa_ast.specs.declared.class.ClassKind.{ClassKind}
+use Rattle.sa_ast.specs.declared.pos.Pos.{Pos}
 use Rattle.sa_include_conflicts.specs.Sharing.{is_set}
 use Rattle.sa_include_conflicts.specs.Stub.{IsFirstStub, IsStubLeft, NoStubBefore, NoStubLeft, is_partial, is_stub_part}
 
@@ -32,7 +32,7 @@ module _ (features : List Feature) (stays : List Bool) where
               one : Some f ≡ Some g → f ≡ g
               one q = cc
 
-  pub first_here : (kind : Kind) (place : ℕ) (f : Feature) (set left partial : Bool) (pos : Pos) → NoStubBefore features stays place → slice_get features place ≡ Some f → set ≡ is_set stays place → left ≡ (is_stub_part f.part && set) → left ≡ true → partial ≡ is_partial kind → partial ≡ false → pos ≡ f.name.pos → IsFirstStub kind features stays pos
+  pub first_here : (kind : ClassKind) (place : ℕ) (f : Feature) (set left partial : Bool) (pos : Pos) → NoStubBefore features stays place → slice_get features place ≡ Some f → set ≡ is_set stays place → left ≡ (is_stub_part f.part && set) → left ≡ true → partial ≡ is_partial kind → partial ≡ false → pos ≡ f.name.pos → IsFirstStub kind features stays pos
   first_here kind place f set left partial pos so_far at is_stays is held kind_is whole named =
       let parts = and_parts (is_stub_part f.part) set (sym is ∙ held) in
       record {
@@ -44,10 +44,10 @@ module _ (features : List Feature) (stays : List Bool) where
         named = named;
       }
 
-  pub none_in_partial : (kind : Kind) (partial : Bool) → partial ≡ is_partial kind → partial ≡ true → NoStubLeft kind features stays
+  pub none_in_partial : (kind : ClassKind) (partial : Bool) → partial ≡ is_partial kind → partial ≡ true → NoStubLeft kind features stays
   none_in_partial kind partial is held = record { none = λ h. absurd (true≢false (sym held ∙ is ∙ h)) }
 
-  pub none_at_all : (kind : Kind) (place : ℕ) → NoStubBefore features stays place → length features ≤ place → NoStubLeft kind features stays
+  pub none_at_all : (kind : ClassKind) (place : ℕ) → NoStubBefore features stays place → length features ≤ place → NoStubLeft kind features stays
   none_at_all kind place so_far le = record { none = λ h n f left. so_far.none n f (omega (arith, slice_get_within features n f left.at, le)) left }
 
 pub ruleset stubs = (none_before, none_here, first_here, none_in_partial, none_at_all)

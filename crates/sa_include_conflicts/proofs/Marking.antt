@@ -5,7 +5,7 @@ use Rattle.std.proofs.lemmas.List.{get_or-set_same, get_or-set_other}
 use Rattle.std.specs.Option.{option_map_or}
 use Rattle.std.specs.Prelude.{replicate}
 use Rattle.sa_include_conflicts.specs.declared.groups.Groups.{Groups}
-use Rattle.sa_include_conflicts.specs.declared.groups.Marks.{Marks}
+use Rattle.sa_include_conflicts.specs.declared.groups.Visited.{Visited}
 use Rattle.sa_include_conflicts.specs.Sharing.{AddsGroup, AddsGroups, AddsWhere, HasGroup, NoneMarked, has_marked, is_marked}
 
 replicated : (count place : ℕ) → get_or (replicate count false) place false ≡ false
@@ -13,10 +13,10 @@ replicated zero place = refl
 replicated (suc count) zero = refl
 replicated (suc count) (suc place) = replicated count place
 
-pub none_marked : (marks : Marks) (count : ℕ) → marks.set.items ≡ replicate count false → NoneMarked marks
+pub none_marked : (marks : Visited) (count : ℕ) → marks.set.items ≡ replicate count false → NoneMarked marks
 none_marked marks count is = record { none = λ group. ap (λ ms. get_or ms group false) is ∙ replicated count group }
 
-pub mark_added : (old new : Marks) (group : ℕ) → group < length old.set.items → new.set.items ≡ set old.set.items group true → AddsGroup group old new
+pub mark_added : (old new : Visited) (group : ℕ) → group < length old.set.items → new.set.items ≡ set old.set.items group true → AddsGroup group old new
 mark_added old new group within is = record { exactly = λ n. by n (cases_eq n group) }
   where
     after : (n : ℕ) → is_marked new n ≡ get_or (set old.set.items group true) n false
@@ -28,7 +28,7 @@ mark_added old new group within is = record { exactly = λ n. by n (cases_eq n g
         let kept = get_or-set_other old.set.items group n true false d in
         (λ h. inl (sym kept ∙ sym (after n) ∙ h), λ h. ⊎_elim (λ q. after n ∙ kept ∙ q) (λ q. absurd (d (sym q))) h)
 
-pub adds_own : (groups : Groups) (old new : Marks) → AddsGroup groups.own old new → groups.writer ≡ None → AddsGroups groups old new
+pub adds_own : (groups : Groups) (old new : Visited) → AddsGroup groups.own old new → groups.writer ≡ None → AddsGroups groups old new
 adds_own groups old new own none = record {
   exactly = λ n. (λ h. ⊎_elim inl (λ q. inr (inl q)) ((own.exactly n).0 h), λ h. (own.exactly n).1 (⊎_elim inl (λ g. ⊎_elim inr (λ q. absurd (differs n (sym q ∙ none))) g) h));
 }
@@ -36,7 +36,7 @@ adds_own groups old new own none = record {
     differs : (n : ℕ) → Some n ≡ None → ⊥
     differs n q = cc
 
-pub adds_both : (groups : Groups) (old between new : Marks) (writer : ℕ) → AddsGroup groups.own old between → groups.writer ≡ Some writer → AddsGroup writer between new → AddsGroups groups old new
+pub adds_both : (groups : Groups) (old between new : Visited) (writer : ℕ) → AddsGroup groups.own old between → groups.writer ≡ Some writer → AddsGroup writer between new → AddsGroups groups old new
 adds_both groups old between new writer own is other = record { exactly = λ n. (into n, from n) }
   where
     one : (n : ℕ) → Some writer ≡ Some n → writer ≡ n
@@ -56,7 +56,7 @@ or_false : (a b : Bool) → (a || b) ≡ false → (a ≡ false) × (b ≡ false
 or_false true b h = absurd (true≢false h)
 or_false false b h = (refl, h)
 
-pub marked_one : (groups : Groups) (marks : Marks) → has_marked groups marks ≡ true → (n : ℕ) × HasGroup groups n × (is_marked marks n ≡ true)
+pub marked_one : (groups : Groups) (marks : Visited) → has_marked groups marks ≡ true → (n : ℕ) × HasGroup groups n × (is_marked marks n ≡ true)
 marked_one groups marks h = by (is_marked marks groups.own) groups.writer refl refl h
   where
     by : (b : Bool) (o : Option ℕ) → is_marked marks groups.own ≡ b → groups.writer ≡ o → (b || option_map_or (is_marked marks) o false) ≡ true → (n : ℕ) × HasGroup groups n × (is_marked marks n ≡ true)
@@ -64,13 +64,13 @@ marked_one groups marks h = by (is_marked marks groups.own) groups.writer refl r
     by false None p q r = absurd (false≢true r)
     by false (Some writer) p q r = (writer, inr q, r)
 
-pub unmarked : (groups : Groups) (marks : Marks) → has_marked groups marks ≡ false → (n : ℕ) → HasGroup groups n → is_marked marks n ≡ false
+pub unmarked : (groups : Groups) (marks : Visited) → has_marked groups marks ≡ false → (n : ℕ) → HasGroup groups n → is_marked marks n ≡ false
 unmarked groups marks h n (inl q) = ap (is_marked marks) (sym q) ∙ (or_false (is_marked marks groups.own) (option_map_or (is_marked marks) groups.writer false) h).0
 unmarked groups marks h n (inr q) = ap (λ o. option_map_or (is_marked marks) o false) (sym q) ∙ (or_false (is_marked marks groups.own) (option_map_or (is_marked marks) groups.writer false) h).1
 
 -- ---- groups that are marked where a test holds
 
-module _ (holds : Bool) (groups : Groups) (old new : Marks) where
+module _ (holds : Bool) (groups : Groups) (old new : Visited) where
   pub marks_added : holds ≡ true → AddsGroups groups old new → AddsWhere holds groups old new
   marks_added held adds = record { added = λ h. adds; kept = λ h. absurd (true≢false (sym held ∙ h)) }
 

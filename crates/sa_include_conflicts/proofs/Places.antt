@@ -7,13 +7,13 @@ module _ {A : Type 0} where
   first_part (y ∷ xs) ys zero x h = h
   first_part (y ∷ xs) ys (suc i) x h = first_part xs ys i x h
 
-  behind : (xs ys : List A) (i k : ℕ) → i ≡ length xs + k → slice_get (xs ++ ys) i ≡ slice_get ys k
-  behind [] ys i k e = let same : i ≡ k = omega (arith, e) in ap (slice_get ys) same
-  behind (x ∷ xs) ys zero k e = absurd (omega (arith, e))
-  behind (x ∷ xs) ys (suc i) k e = behind xs ys i k (omega (arith, e))
+  following : (xs ys : List A) (i k : ℕ) → i ≡ length xs + k → slice_get (xs ++ ys) i ≡ slice_get ys k
+  following [] ys i k e = let same : i ≡ k = omega (arith, e) in ap (slice_get ys) same
+  following (x ∷ xs) ys zero k e = absurd (omega (arith, e))
+  following (x ∷ xs) ys (suc i) k e = following xs ys i k (omega (arith, e))
 
   pub second_part : (xs ys : List A) (i : ℕ) (x : A) → length xs ≤ i → slice_get ys (i - length xs) ≡ Some x → slice_get (xs ++ ys) i ≡ Some x
-  second_part xs ys i x le h = behind xs ys i (i - length xs) (omega (arith, le)) ∙ h
+  second_part xs ys i x le h = following xs ys i (i - length xs) (omega (arith, le)) ∙ h
 
   pub first_part_back : (xs ys : List A) (i : ℕ) (x : A) → i < length xs → slice_get (xs ++ ys) i ≡ Some x → slice_get xs i ≡ Some x
   first_part_back [] ys i x lt h = absurd (omega (arith, lt))
@@ -21,6 +21,6 @@ module _ {A : Type 0} where
   first_part_back (y ∷ xs) ys (suc i) x lt h = first_part_back xs ys i x (omega (arith, lt)) h
 
   pub second_part_back : (xs ys : List A) (i : ℕ) (x : A) → length xs ≤ i → slice_get (xs ++ ys) i ≡ Some x → slice_get ys (i - length xs) ≡ Some x
-  second_part_back xs ys i x le h = sym (behind xs ys i (i - length xs) (omega (arith, le))) ∙ h
+  second_part_back xs ys i x le h = sym (following xs ys i (i - length xs) (omega (arith, le))) ∙ h
 
 pub ruleset places = (first_part, second_part)

@@ -7,16 +7,16 @@ use Rattle.std.proofs.lemmas.List.Folds.{list_any-append}
 use Rattle.std.proofs.lemmas.Option.{get_or_from_slice_get, slice_get-map, slice_get_read, slice_get_within}
 use Rattle.std.specs.Option.{option_map}
 use Rattle.std.specs.List.{list_any}
-use Rattle.sa_tree.specs.declared.class.Feature.{Feature}
+use Rattle.sa_ast.specs.declared.class.Feature.{Feature}
 use Rattle.sa_include_conflicts.specs.Clashes.{do_clash}
 use Rattle.sa_include_conflicts.specs.Sharing.{AddsGroups, AddsWhere, AreGrouped, HaveCommon, NoneMarked, all_features, groups_at, has_marked}
-use Rattle.sa_include_conflicts.specs.Staying.{AreMarked, AreReplacing, all_stay, brought_bodies, brought_kept, is_body, meets_any, stays_brought, stays_written, written_bodies, written_kept, written_stubs}
+use Rattle.sa_include_conflicts.specs.Staying.{AreMarked, AreReplacing, all_stay, inherited_bodies, inherited_kept, is_body, meets_any, stays_inherited, stays_written, written_bodies, written_kept, written_stubs}
 use Rattle.sa_include_conflicts.specs.Stub.{is_stub_part}
 use Rattle.sa_include_conflicts.specs.declared.conflicts.Conflicts.{Conflicts}
 use Rattle.sa_include_conflicts.specs.declared.features.ClassFeatures.{ClassFeatures}
 use Rattle.sa_include_conflicts.specs.declared.groups.Groups.{Groups}
-use Rattle.sa_include_conflicts.specs.declared.groups.Marks.{Marks}
-use Rattle.sa_include_conflicts.specs.declared.replaced.Replacing.{Replacing}
+use Rattle.sa_include_conflicts.specs.declared.groups.Visited.{Visited}
+use Rattle.sa_include_conflicts.specs.declared.replacement.ReplacementMarks.{ReplacementMarks}
 use Rattle.sa_include_conflicts.proofs.Marking.{marked_one, unmarked}
 use Rattle.sa_include_conflicts.proofs.Places.{first_part, first_part_back, second_part, second_part_back}
 
@@ -26,7 +26,7 @@ module _ (features : ClassFeatures) (conflicts : Conflicts) where
 
   -- ---- marks
 
-  pub nothing_marked : (marks : Marks) → NoneMarked marks → AreMarked features conflicts [] marks
+  pub nothing_marked : (marks : Visited) → NoneMarked marks → AreMarked features conflicts [] marks
   unfolding meets_any
   nothing_marked marks none = record { exactly = λ place f groups at groups_are. by groups (has_marked groups marks) refl }
     where
@@ -35,7 +35,7 @@ module _ (features : ClassFeatures) (conflicts : Conflicts) where
       by groups true e = let one = marked_one groups marks e in absurd (false≢true (sym (none.none one.0) ∙ one.2))
 
   -- one feature more, with its groups
-  marked_behind : (marked : List Feature) (old new : Marks) (place : ℕ) (g : Feature) (m : Groups) → AreGrouped features conflicts → slice_get all place ≡ Some g → groups_at conflicts place ≡ Some m → AreMarked features conflicts marked old → AddsGroups m old new → AreMarked features conflicts (marked ++ g ∷ []) new
+  marked_behind : (marked : List Feature) (old new : Visited) (place : ℕ) (g : Feature) (m : Groups) → AreGrouped features conflicts → slice_get all place ≡ Some g → groups_at conflicts place ≡ Some m → AreMarked features conflicts marked old → AddsGroups m old new → AreMarked features conflicts (marked ++ g ∷ []) new
   unfolding meets_any
   marked_behind marked old new place g m grouped at groups_are before adds = record { exactly = λ q f n at_q groups_q. each q f n at_q groups_q }
     where
@@ -64,7 +64,7 @@ module _ (features : ClassFeatures) (conflicts : Conflicts) where
           by false false false x y z = refl
 
   -- those up to a place of a list that pass a test
-  pub marked_more : (test : Feature → Bool) (xs : List Feature) (i place : ℕ) (f : Feature) (groups : Groups) (holds : Bool) (old new : Marks) → AreGrouped features conflicts → i < length xs → f ≡ get_or xs i f → slice_get all place ≡ Some f → groups_at conflicts place ≡ Some groups → holds ≡ test f → AreMarked features conflicts (filter test (take i xs)) old → AddsWhere holds groups old new → AreMarked features conflicts (filter test (take (i + 1) xs)) new
+  pub marked_more : (test : Feature → Bool) (xs : List Feature) (i place : ℕ) (f : Feature) (groups : Groups) (holds : Bool) (old new : Visited) → AreGrouped features conflicts → i < length xs → f ≡ get_or xs i f → slice_get all place ≡ Some f → groups_at conflicts place ≡ Some groups → holds ≡ test f → AreMarked features conflicts (filter test (take i xs)) old → AddsWhere holds groups old new → AreMarked features conflicts (filter test (take (i + 1) xs)) new
   marked_more test xs i place f groups holds old new grouped lt is at groups_are tested before adds =
       subst (λ ms. AreMarked features conflicts ms new) (sym next) (by holds refl)
     where
@@ -80,75 +80,75 @@ module _ (features : ClassFeatures) (conflicts : Conflicts) where
           (subst (λ ms. AreMarked features conflicts ms new) (sym (append-nil (filter test (take i xs))))
           (subst (AreMarked features conflicts (filter test (take i xs))) (sym (adds.kept e)) before))
 
-  pub marked_all : (test : Feature → Bool) (xs : List Feature) (i : ℕ) (marks : Marks) → length xs ≤ i → AreMarked features conflicts (filter test (take i xs)) marks → AreMarked features conflicts (filter test xs) marks
+  pub marked_all : (test : Feature → Bool) (xs : List Feature) (i : ℕ) (marks : Visited) → length xs ≤ i → AreMarked features conflicts (filter test (take i xs)) marks → AreMarked features conflicts (filter test xs) marks
   marked_all test xs i marks le upto = subst (λ ys. AreMarked features conflicts (filter test ys) marks) (take_all i xs le) upto
 
   -- ---- the places of brought and of written features
 
-  pub brought_at : (i : ℕ) (f : Feature) → i < length features.brought.now → f ≡ get_or features.brought.now i f → slice_get all i ≡ Some f
-  brought_at i f lt is = first_part features.brought.now features.written.now i f (slice_get_read features.brought.now (length features.brought.now) i f refl lt is)
+  pub brought_at : (i : ℕ) (f : Feature) → i < length features.inherited.now → f ≡ get_or features.inherited.now i f → slice_get all i ≡ Some f
+  brought_at i f lt is = first_part features.inherited.now features.written.now i f (slice_get_read features.inherited.now (length features.inherited.now) i f refl lt is)
 
-  pub written_at : (i : ℕ) (f : Feature) → i < length features.written.now → f ≡ get_or features.written.now i f → slice_get all (length features.brought.now + i) ≡ Some f
-  written_at i f lt is = second_part features.brought.now features.written.now (length features.brought.now + i) f (omega arith) (ap (slice_get features.written.now) back ∙ slice_get_read features.written.now (length features.written.now) i f refl lt is)
+  pub written_at : (i : ℕ) (f : Feature) → i < length features.written.now → f ≡ get_or features.written.now i f → slice_get all (length features.inherited.now + i) ≡ Some f
+  written_at i f lt is = second_part features.inherited.now features.written.now (length features.inherited.now + i) f (omega arith) (ap (slice_get features.written.now) back ∙ slice_get_read features.written.now (length features.written.now) i f refl lt is)
     where
-      back : (length features.brought.now + i) - length features.brought.now ≡ i
+      back : (length features.inherited.now + i) - length features.inherited.now ≡ i
       back = omega arith
 
   -- ---- whether a feature stays
 
   abbrev keep_brought : Feature → Bool
-  keep_brought = stays_brought features.immutable features.brought.now features.written.now
+  keep_brought = stays_inherited features.immutable features.inherited.now features.written.now
 
   abbrev keep_written : Feature → Bool
-  keep_written = stays_written features.immutable features.brought.now features.written.now
+  keep_written = stays_written features.immutable features.inherited.now features.written.now
 
-  brought_count : length (map keep_brought features.brought.now) ≡ length features.brought.now
-  brought_count = length-map features.brought.now keep_brought
+  brought_count : length (map keep_brought features.inherited.now) ≡ length features.inherited.now
+  brought_count = length-map features.inherited.now keep_brought
 
-  pub are_replacing : (written brought stubs : Marks) → AreMarked features conflicts (written_bodies features.immutable features.written.now) written → AreMarked features conflicts (brought_bodies features.immutable features.brought.now features.written.now) brought → AreMarked features conflicts (written_stubs features.immutable features.brought.now features.written.now) stubs → AreReplacing features conflicts (record { written_bodies = written; brought_bodies = brought; written_stubs = stubs })
-  are_replacing written brought stubs w b s = record { written_bodies = w; brought_bodies = b; written_stubs = s }
+  pub are_replacing : (written inherited stubs : Visited) → AreMarked features conflicts (written_bodies features.immutable features.written.now) written → AreMarked features conflicts (inherited_bodies features.immutable features.inherited.now features.written.now) inherited → AreMarked features conflicts (written_stubs features.immutable features.inherited.now features.written.now) stubs → AreReplacing features conflicts (record { written_bodies = written; inherited_bodies = inherited; written_stubs = stubs })
+  are_replacing written inherited stubs w b s = record { written_bodies = w; inherited_bodies = b; written_stubs = s }
 
-  module _ (place : ℕ) (f : Feature) (groups : Groups) (r : Replacing) (kept : Bool) (marked : AreReplacing features conflicts r) (at : slice_get all place ≡ Some f) (groups_are : groups_at conflicts place ≡ Some groups) where
+  module _ (place : ℕ) (f : Feature) (groups : Groups) (r : ReplacementMarks) (kept : Bool) (marked : AreReplacing features conflicts r) (at : slice_get all place ≡ Some f) (groups_are : groups_at conflicts place ≡ Some groups) where
     by_written : has_marked groups r.written_bodies ≡ meets_any features.immutable (written_bodies features.immutable features.written.now) f
     by_written = marked.written_bodies.exactly place f groups at groups_are
 
-    by_brought : has_marked groups r.brought_bodies ≡ meets_any features.immutable (brought_bodies features.immutable features.brought.now features.written.now) f
-    by_brought = marked.brought_bodies.exactly place f groups at groups_are
+    by_brought : has_marked groups r.inherited_bodies ≡ meets_any features.immutable (inherited_bodies features.immutable features.inherited.now features.written.now) f
+    by_brought = marked.inherited_bodies.exactly place f groups at groups_are
 
-    by_stubs : has_marked groups r.written_stubs ≡ meets_any features.immutable (written_stubs features.immutable features.brought.now features.written.now) f
+    by_stubs : has_marked groups r.written_stubs ≡ meets_any features.immutable (written_stubs features.immutable features.inherited.now features.written.now) f
     by_stubs = marked.written_stubs.exactly place f groups at groups_are
 
     abbrev meets_written : Bool
     meets_written = meets_any features.immutable (written_bodies features.immutable features.written.now) f
 
     abbrev meets_brought : Bool
-    meets_brought = meets_any features.immutable (brought_bodies features.immutable features.brought.now features.written.now) f
+    meets_brought = meets_any features.immutable (inherited_bodies features.immutable features.inherited.now features.written.now) f
 
-    brought_same : brought_kept r f groups ≡ keep_brought f
-    unfolding stays_brought
+    brought_same : inherited_kept r f groups ≡ keep_brought f
+    unfolding stays_inherited
     brought_same =
-        ap (λ b. cond (is_stub_part f.part) (not ((b || has_marked groups r.brought_bodies) || has_marked groups r.written_stubs)) (not b)) by_written
+        ap (λ b. cond (is_stub_part f.part) (not ((b || has_marked groups r.inherited_bodies) || has_marked groups r.written_stubs)) (not b)) by_written
         ∙ ap (λ b. cond (is_stub_part f.part) (not ((meets_written || b) || has_marked groups r.written_stubs)) (not meets_written)) by_brought
         ∙ ap (λ b. cond (is_stub_part f.part) (not ((meets_written || meets_brought) || b)) (not meets_written)) by_stubs
 
     written_same : written_kept r f groups ≡ keep_written f
     unfolding stays_written
     written_same =
-        ap (λ b. is_body f || not (b || has_marked groups r.brought_bodies)) by_written
+        ap (λ b. is_body f || not (b || has_marked groups r.inherited_bodies)) by_written
         ∙ ap (λ b. is_body f || not (meets_written || b)) by_brought
 
-    pub brought_stays : kept ≡ brought_kept r f groups → place < length features.brought.now → slice_get (all_stay features) place ≡ Some kept
+    pub brought_stays : kept ≡ inherited_kept r f groups → place < length features.inherited.now → slice_get (all_stay features) place ≡ Some kept
     brought_stays is lt =
-        first_part (map keep_brought features.brought.now) (map keep_written features.written.now) place kept
-        (slice_get-map keep_brought features.brought.now place
-        ∙ ap (option_map keep_brought) (first_part_back features.brought.now features.written.now place f lt at) ∙ ap Some (sym (is ∙ brought_same)))
+        first_part (map keep_brought features.inherited.now) (map keep_written features.written.now) place kept
+        (slice_get-map keep_brought features.inherited.now place
+        ∙ ap (option_map keep_brought) (first_part_back features.inherited.now features.written.now place f lt at) ∙ ap Some (sym (is ∙ brought_same)))
 
-    pub written_stays : kept ≡ written_kept r f groups → length features.brought.now ≤ place → slice_get (all_stay features) place ≡ Some kept
+    pub written_stays : kept ≡ written_kept r f groups → length features.inherited.now ≤ place → slice_get (all_stay features) place ≡ Some kept
     written_stays is le =
-        second_part (map keep_brought features.brought.now) (map keep_written features.written.now) place kept (omega (arith, le, brought_count))
+        second_part (map keep_brought features.inherited.now) (map keep_written features.written.now) place kept (omega (arith, le, brought_count))
         (ap (λ n. slice_get (map keep_written features.written.now) (place - n)) brought_count
-        ∙ slice_get-map keep_written features.written.now (place - length features.brought.now)
-        ∙ ap (option_map keep_written) (second_part_back features.brought.now features.written.now place f le at) ∙ ap Some (sym (is ∙ written_same)))
+        ∙ slice_get-map keep_written features.written.now (place - length features.inherited.now)
+        ∙ ap (option_map keep_written) (second_part_back features.inherited.now features.written.now place f le at) ∙ ap Some (sym (is ∙ written_same)))
 
   pub stays_more : (stays more : List Bool) (place : ℕ) (kept : Bool) → stays ≡ take place (all_stay features) → slice_get (all_stay features) place ≡ Some kept → more ≡ stays ++ kept ∷ [] → more ≡ take (place + 1) (all_stay features)
   stays_more stays more place kept upto at pushed =
@@ -160,10 +160,10 @@ module _ (features : ClassFeatures) (conflicts : Conflicts) where
     where
       count : length (all_stay features) ≡ length all
       count =
-          length-append (map keep_brought features.brought.now) (map keep_written features.written.now)
+          length-append (map keep_brought features.inherited.now) (map keep_written features.written.now)
           ∙ ap (λ n. n + length (map keep_written features.written.now)) brought_count
-          ∙ ap (λ n. length features.brought.now + n) (length-map features.written.now keep_written)
-          ∙ sym (length-append features.brought.now features.written.now)
+          ∙ ap (λ n. length features.inherited.now + n) (length-map features.written.now keep_written)
+          ∙ sym (length-append features.inherited.now features.written.now)
 
 pub ruleset marking = (nothing_marked, marked_all)
 

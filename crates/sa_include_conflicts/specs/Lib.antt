@@ -1,8 +1,8 @@
 pub mod Signatures
-pub mod Shapes
+pub mod SignatureKeys
 pub mod Clashes
 pub mod Sharing
 pub mod Stub
-pub mod Known
-pub mod Brought
+pub mod KnownSignatures
+pub mod IncludedFeatures
 pub mod Staying

@@ -2,16 +2,16 @@
 use Rattle.std.specs.Prelude.{◌≡◌, ◌⊎◌, ◌↔◌, ◌||◌, ◌<◌, ◌≤◌, ◌++◌, Bool, true, false, ℕ, List, Option, Some, length, slice_get}
 use Rattle.std.specs.List.{slice_index_or}
 use Rattle.std.specs.Option.{option_map_or}
-use Rattle.sa_tree.specs.declared.class.Feature.{Feature}
+use Rattle.sa_ast.specs.declared.class.Feature.{Feature}
 use Rattle.sa_include_conflicts.specs.declared.conflicts.Conflicts.{Conflicts}
 use Rattle.sa_include_conflicts.specs.declared.features.ClassFeatures.{ClassFeatures}
 use Rattle.sa_include_conflicts.specs.declared.groups.Groups.{Groups}
-use Rattle.sa_include_conflicts.specs.declared.groups.Marks.{Marks}
+use Rattle.sa_include_conflicts.specs.declared.groups.Visited.{Visited}
 use Rattle.sa_include_conflicts.specs.Clashes.{do_clash}
 
 -- the features of a class, in their order
 abbrev pub all_features : ClassFeatures → List Feature
-all_features features = features.brought.now ++ features.written.now
+all_features features = features.inherited.now ++ features.written.now
 
 -- a feature stays
 abbrev pub is_set : List Bool → ℕ → Bool
@@ -69,25 +69,25 @@ module _ (conflicts : Conflicts) (stays : List Bool) where
 
 -- ---- marks at groups
 
-abbrev pub is_marked : Marks → ℕ → Bool
+abbrev pub is_marked : Visited → ℕ → Bool
 is_marked marks group = slice_index_or marks.set.items group false
 
-pub record NoneMarked (marks : Marks) : Type 0 where
+pub record NoneMarked (marks : Visited) : Type 0 where
   pub none : (group : ℕ) → is_marked marks group ≡ false
 
 -- whether a group of a feature is marked
-abbrev pub has_marked : Groups → Marks → Bool
+abbrev pub has_marked : Groups → Visited → Bool
 has_marked groups marks = is_marked marks groups.own || option_map_or (is_marked marks) groups.writer false
 
 -- this group is marked too
-pub record AddsGroup (group : ℕ) (old new : Marks) : Type 0 where
+pub record AddsGroup (group : ℕ) (old new : Visited) : Type 0 where
   pub exactly : (n : ℕ) → (is_marked new n ≡ true) ↔ ((is_marked old n ≡ true) ⊎ (group ≡ n))
 
 -- those of a feature are
-pub record AddsGroups (groups : Groups) (old new : Marks) : Type 0 where
+pub record AddsGroups (groups : Groups) (old new : Visited) : Type 0 where
   pub exactly : (n : ℕ) → (is_marked new n ≡ true) ↔ ((is_marked old n ≡ true) ⊎ HasGroup groups n)
 
 -- they are marked too where the test holds
-pub record AddsWhere (holds : Bool) (groups : Groups) (old new : Marks) : Type 0 where
+pub record AddsWhere (holds : Bool) (groups : Groups) (old new : Visited) : Type 0 where
   pub added : holds ≡ true → AddsGroups groups old new
   pub kept : holds ≡ false → new ≡ old

@@ -1,14 +1,14 @@
 -- The signatures of a feature in its class: the one by which it is read or called, and the one by which it is written.
 use Rattle.std.specs.Prelude.{Bool, ℕ, List, [], ◌∷◌, Option, Some, None, if◌then◌else◌, map}
 use Rattle.std.specs.Option.{option_map, option_to_list, unwrap_or}
-use Rattle.sa_tree.specs.declared.class.Feature.{Feature}
-use Rattle.sa_tree.specs.declared.class.Formal.{Formal}
-use Rattle.sa_tree.specs.declared.class.Part.{Part}
-use Rattle.sa_tree.specs.declared.class.Part.TheVariants.{Attr, Shared, Const}
-use Rattle.sa_tree.specs.declared.ty.Mode.TheVariants.{In}
-use Rattle.sa_tree.specs.declared.ty.ModeTy.{ModeTy}
-use Rattle.sa_tree.specs.declared.ty.Ty.{Ty}
-use Rattle.sa_tree.specs.declared.ty.Ty.TheVariants as ty
+use Rattle.sa_ast.specs.declared.class.Feature.{Feature}
+use Rattle.sa_ast.specs.declared.class.FormalParam.{FormalParam}
+use Rattle.sa_ast.specs.declared.class.FeatureBody.{FeatureBody}
+use Rattle.sa_ast.specs.declared.class.FeatureBody.TheVariants.{Attr, Shared, Const}
+use Rattle.sa_ast.specs.declared.ty.Mode.TheVariants.{In}
+use Rattle.sa_ast.specs.declared.ty.ModeTy.{ModeTy}
+use Rattle.sa_ast.specs.declared.ty.Ty.{Ty}
+use Rattle.sa_ast.specs.declared.ty.Ty.TheVariants as ty
 use Rattle.sa_types.specs.declared.sig.Sig.{Sig}
 
 -- ---- the one by which it is read or called
@@ -17,11 +17,11 @@ use Rattle.sa_types.specs.declared.sig.Sig.{Sig}
 abbrev pub int_name : List ℕ
 int_name = 73 ∷ 78 ∷ 84 ∷ []
 
-abbrev pub result_of_part : Feature → Part → Option Ty
+abbrev pub result_of_part : Feature → FeatureBody → Option Ty
 result_of_part f (Const value more) = Some (unwrap_or f.result (ty.Named int_name [] f.name.pos))
 result_of_part f part = f.result
 
-abbrev pub argument : Formal → ModeTy
+abbrev pub argument : FormalParam → ModeTy
 argument a = record { mode = a.mode; ty = a.ty }
 
 abbrev pub own_signature : Feature → Sig
@@ -36,7 +36,7 @@ abbrev pub writing : Feature → Option Ty → Sig
 writing f result = record { name = f.name.name; args = option_to_list (option_map taken f.result); result = result }
 
 -- that of an attribute of an immutable class gives the changed copy
-abbrev pub writer_of_part : Bool → Feature → Part → Option Sig
+abbrev pub writer_of_part : Bool → Feature → FeatureBody → Option Sig
 writer_of_part immutable f Attr = Some (writing f (if immutable then Some (ty.Same f.name.pos) else None))
 writer_of_part immutable f (Shared value) = Some (writing f None)
 writer_of_part immutable f part = None

@@ -1,21 +1,21 @@
 //! Features of which no two conflict, tried: each signature is put into a table, in which none of an earlier feature conflicts with it.
 
 ghost use Rattle.std.specs.Prelude.{IfOk, OnOk};
-ghost use Rattle.sa_include_conflicts.specs.Brought.{HasSignatures};
+ghost use Rattle.sa_include_conflicts.specs.IncludedFeatures.{HasSignatures};
 ghost use Rattle.sa_include_conflicts.specs.Clashes.{NoneClash};
-ghost use Rattle.sa_include_conflicts.specs.Known.{AddsFeature, AddsSignature};
+ghost use Rattle.sa_include_conflicts.specs.KnownSignatures.{AddsFeature, AddsSignature};
 
-use crate::shape::Shape;
 use crate::signature::{own_signature, writer_signature};
+use crate::signature_key::SignatureKey;
 use indexmap::IndexSet;
-use sa_tree::{Feature, NoMemory};
+use sa_ast::{Feature, NoMemory};
 use sa_types::Sig;
 use std::alloc::Global;
 
 /// The signatures of features of which no two conflict.
 #[derive(Drop)]
-pub struct Known {
-    pub(crate) shapes: IndexSet<Shape>,
+pub struct KnownSignatures {
+    pub(crate) shapes: IndexSet<SignatureKey>,
 }
 
 /// The signatures of the features of a class. It tries that no two of these conflict, which is known to the writer and not to
@@ -25,11 +25,15 @@ pub struct Known {
 ///
 /// `NoMemory`, also where two conflict.
 #[tactic(auto, using(crate::proofs::Separate::none_apart, crate::proofs::Separate::more_apart))]
-pub fn try_apart(alloc: Global, features: &[Feature], immutable: bool) -> Result<Known, NoMemory>
+pub fn try_apart(
+    alloc: Global,
+    features: &[Feature],
+    immutable: bool,
+) -> Result<KnownSignatures, NoMemory>
     ensures none_clash { OnOk result (NoneClash immutable features.now) }
     ensures signatures { IfOk result (HasSignatures immutable features.now) }
 {
-    let mut known = Known {
+    let mut known = KnownSignatures {
         shapes: IndexSet::new(alloc),
     };
     for feature in features {
@@ -38,7 +42,7 @@ pub fn try_apart(alloc: Global, features: &[Feature], immutable: bool) -> Result
     Ok(known)
 }
 
-impl Known {
+impl KnownSignatures {
     /// Adds the signatures of a feature.
     #[tactic(auto, using(crate::proofs::Separate::adds_one, crate::proofs::Separate::adds_two))]
     fn add_feature(
@@ -64,7 +68,7 @@ impl Known {
     fn add(&mut self, sig: Sig) -> Result<(), NoMemory>
         ensures { OnOk result (AddsSignature sig self.old.shapes.keys self.new.shapes.keys) }
     {
-        let is_new = self.shapes.insert(Shape::new(sig))?;
+        let is_new = self.shapes.insert(SignatureKey::new(sig))?;
         if !is_new {
             return Err(NoMemory);
         }

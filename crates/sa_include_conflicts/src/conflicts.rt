@@ -1,17 +1,17 @@
 //! Which features of a class conflict: those that have two signatures which no call could tell apart.
 
 ghost use Rattle.std.specs.Prelude.{◌≡◌, IfOk, MatchOption, OnOk, Some};
-ghost use Rattle.sa_include_conflicts.specs.Known.{IsGroupOf, IsGroupedBy};
+ghost use Rattle.sa_include_conflicts.specs.KnownSignatures.{IsGroupOf, IsGroupedBy};
 ghost use Rattle.sa_include_conflicts.specs.Sharing.{AreGrouped, IsFirstConflict, NoConflict, groups_at};
 
 use crate::features::ClassFeatures;
-use crate::groups::{Groups, Marks};
+use crate::groups::{Groups, Visited};
 use crate::lists::is_set;
-use crate::shape::Shape;
 use crate::signature::{own_signature, writer_signature};
+use crate::signature_key::SignatureKey;
 use indexmap::IndexSet;
+use sa_ast::{Feature, NoMemory};
 use sa_graph::entry;
-use sa_tree::{Feature, NoMemory};
 use sa_types::Sig;
 use std::alloc::Global;
 
@@ -19,7 +19,7 @@ use std::alloc::Global;
 #[derive(Drop)]
 struct Grouping {
     /// The first signature of each group.
-    known: IndexSet<Shape>,
+    known: IndexSet<SignatureKey>,
     /// Whether the class is immutable.
     immutable: bool,
 }
@@ -87,7 +87,7 @@ impl Grouping {
         ensures group { IfOk result (IsGroupOf sig self.old.known.keys self.new.known.keys) }
         ensures immutable { OnOk result (self.new.immutable ≡ self.old.immutable) }
     {
-        let (group, _) = self.known.insert_full(Shape::new(sig))?;
+        let (group, _) = self.known.insert_full(SignatureKey::new(sig))?;
         Ok(group)
     }
 }
@@ -109,7 +109,7 @@ pub fn first_conflict(
         (NoConflict conflicts.now stays.now from to)
         (IsFirstConflict conflicts.now stays.now from to)) }
 {
-    let mut marks = Marks::none(alloc, conflicts.count)?;
+    let mut marks = Visited::none(alloc, conflicts.count)?;
     for place in from..to {
         if !is_set(stays, place) {
             continue;

@@ -5,14 +5,14 @@ ghost use Rattle.sa_include_conflicts.specs.Sharing.{all_features};
 ghost use Rattle.sa_include_conflicts.specs.Stub.{is_stub_part};
 
 use crate::lists::item;
-use sa_tree::{Feature, NoMemory, Part};
+use sa_ast::{Feature, FeatureBody, NoMemory};
 
 /// The features of a class before any replaces another: those that its includes bring, then those that it writes. A place
 /// counts them in this order, from 0.
 #[derive(Clone, Copy)]
 pub struct ClassFeatures<'a> {
     /// Those that includes bring.
-    pub brought: &'a [Feature],
+    pub inherited: &'a [Feature],
     /// Those that the class writes.
     pub written: &'a [Feature],
     /// Whether they are those of an immutable class.
@@ -24,7 +24,7 @@ impl<'a> ClassFeatures<'a> {
     pub fn len(&self) -> usize
         ensures { result ≡ length (all_features self.now) }
     {
-        self.brought.len() + self.written.len()
+        self.inherited.len() + self.written.len()
     }
 
     /// The feature at a place.
@@ -36,11 +36,11 @@ impl<'a> ClassFeatures<'a> {
     pub fn at(&self, place: usize) -> Result<&'a Feature, NoMemory>
         ensures { IfOk result (λ feature. slice_get (all_features self.now) place ≡ Some feature.now) }
     {
-        let brought = self.brought.len();
-        if place < brought {
-            return item(self.brought, place);
+        let inherited = self.inherited.len();
+        if place < inherited {
+            return item(self.inherited, place);
         }
-        item(self.written, place - brought)
+        item(self.written, place - inherited)
     }
 }
 
@@ -49,7 +49,7 @@ pub fn is_stub(feature: &Feature) -> bool
     ensures { result ≡ is_stub_part feature.now.part }
 {
     match feature.part {
-        Part::Stub => true,
+        FeatureBody::Stub => true,
         _ => false,
     }
 }

@@ -3,7 +3,7 @@
 ghost use Rattle.std.specs.Prelude.{◌≡◌, IfOk, OnOk, false, ℕ};
 ghost use Rattle.sa_include_conflicts.specs.Sharing.{AddsGroup, AddsGroups, AddsWhere, NoneMarked, has_marked, is_marked};
 
-use sa_tree::NoMemory;
+use sa_ast::NoMemory;
 use std::alloc::Global;
 
 /// The groups that the signatures of a feature are in. Two features conflict where they have a group in common.
@@ -15,18 +15,18 @@ pub(crate) struct Groups {
 
 /// For each group whether it is marked.
 #[derive(Drop)]
-pub(crate) struct Marks {
+pub(crate) struct Visited {
     set: Vec<bool>,
 }
 
-impl Marks {
+impl Visited {
     /// No marks at so many groups.
     #[tactic(auto, using(crate::proofs::Marking::none_marked))]
-    pub(crate) fn none(alloc: Global, count: usize) -> Result<Marks, NoMemory>
+    pub(crate) fn none(alloc: Global, count: usize) -> Result<Visited, NoMemory>
         ensures { IfOk result NoneMarked }
     {
         let set = vec![in alloc; false; count]?;
-        Ok(Marks { set })
+        Ok(Visited { set })
     }
 
     /// Whether one of the groups of a feature is marked.

@@ -2,19 +2,19 @@
 #![tactic(auto)]
 
 mod apart;
-mod brought;
 mod conflicts;
 mod features;
 mod groups;
+mod inclusion;
 mod lists;
-mod replaced;
-mod shape;
+mod replacement;
 mod signature;
+mod signature_key;
 mod stubs;
 
-pub use apart::{Known, try_apart};
+pub use apart::{KnownSignatures, try_apart};
 pub use conflicts::{Conflicts, first_conflict, group_features};
 pub use features::{ClassFeatures, is_stub};
 pub use lists::{is_set, item};
-pub use replaced::staying;
-pub use stubs::{keeps_stub, stub_left};
+pub use replacement::retained_features;
+pub use stubs::{keeps_stub, remaining_stub};

@@ -3,7 +3,7 @@
 ghost use Rattle.std.specs.Prelude.{◌≡◌, IfOk, Some, slice_get};
 ghost use Rattle.sa_include_conflicts.specs.Sharing as spec;
 
-use sa_tree::NoMemory;
+use sa_ast::NoMemory;
 
 /// What a list holds at a place where it holds something. That it does is known to the writer and not to a proof, so
 /// another place is answered as want of memory.

@@ -5,7 +5,7 @@ ghost use Rattle.std.specs.Prelude.{◌≡◌, IfOk, map};
 ghost use Rattle.std.specs.Option.{option_map, option_to_list};
 ghost use Rattle.sa_include_conflicts.specs.Signatures as spec;
 
-use sa_tree::{Feature, Formal, Mode, ModeTy, Name, NoMemory, Part, Ty};
+use sa_ast::{Feature, FeatureBody, FormalParam, Mode, ModeTy, Name, NoMemory, Ty};
 use sa_types::Sig;
 use sqlite_items::Items;
 use std::alloc::{AllocError, Global};
@@ -21,7 +21,7 @@ pub(crate) fn own_signature(alloc: Global, feature: &Feature) -> Result<Sig, NoM
 }
 
 #[tactic(auto, using(std::proofs::lemmas::List::map_more))]
-fn arguments(alloc: Global, formals: &[Formal]) -> Result<Items<ModeTy>, AllocError>
+fn arguments(alloc: Global, formals: &[FormalParam]) -> Result<Items<ModeTy>, AllocError>
     ensures { IfOk result (λ args. args ≡ map spec.argument formals.now) }
 {
     let mut args = Items::new(alloc);
@@ -40,7 +40,7 @@ fn result_of(alloc: Global, feature: &Feature) -> Result<Option<Ty>, AllocError>
     ensures { IfOk result (λ of. of ≡ spec.result_of_part feature.now feature.now.part) }
 {
     match (&feature.part, &feature.result) {
-        (Part::Const(_, _), None) => {
+        (FeatureBody::Const(_, _), None) => {
             let name = Name::from_slice(alloc, b"INT")?;
             Ok(Some(Ty::Named(name, Items::new(alloc), feature.name.pos)))
         }
@@ -59,8 +59,8 @@ pub(crate) fn writer_signature(
     ensures { IfOk result (λ sig. sig ≡ spec.writer_signature immutable feature.now) }
 {
     let result = match feature.part {
-        Part::Attr if immutable => Some(Ty::Same(feature.name.pos)),
-        Part::Attr | Part::Shared(_) => None,
+        FeatureBody::Attr if immutable => Some(Ty::Same(feature.name.pos)),
+        FeatureBody::Attr | FeatureBody::Shared(_) => None,
         _ => return Ok(None),
     };
     let name = feature.name.name.copy(alloc)?;

@@ -6,7 +6,7 @@ ghost use Rattle.sa_include_conflicts.specs.Stub as spec;
 
 use crate::features::{ClassFeatures, is_stub};
 use crate::lists::is_set;
-use sa_tree::{Feature, Kind, NoMemory, Pos};
+use sa_ast::{ClassKind, Feature, NoMemory, Pos};
 
 /// Where the first stub that stays is named (E22), of a class that isn't partial.
 ///
@@ -14,8 +14,8 @@ use sa_tree::{Feature, Kind, NoMemory, Pos};
 ///
 /// `NoMemory`.
 #[tactic(auto, using(crate::proofs::LeftStubs::stubs))]
-pub fn stub_left(
-    kind: Kind,
+pub fn remaining_stub(
+    kind: ClassKind,
     features: &ClassFeatures<'_>,
     stays: &[bool],
 ) -> Result<Option<Pos>, NoMemory>
@@ -43,7 +43,7 @@ fn is_left(feature: &Feature, stays: bool) -> bool
 }
 
 /// Whether a class that isn't partial has a stub among these features.
-pub fn keeps_stub(kind: Kind, features: &[Feature]) -> bool
+pub fn keeps_stub(kind: ClassKind, features: &[Feature]) -> bool
     ensures { result ≡ spec.keeps_stub kind features.now }
 {
     if is_partial(kind) {
@@ -52,14 +52,14 @@ pub fn keeps_stub(kind: Kind, features: &[Feature]) -> bool
     has_stub(features)
 }
 
-fn is_partial(kind: Kind) -> bool
+fn is_partial(kind: ClassKind) -> bool
     ensures { result ≡ spec.is_partial kind }
 {
     match kind {
-        Kind::Partial => true,
-        Kind::Reference => false,
-        Kind::Immutable => false,
-        Kind::Abstract => false,
+        ClassKind::Partial => true,
+        ClassKind::Reference => false,
+        ClassKind::Immutable => false,
+        ClassKind::Abstract => false,
     }
 }
 

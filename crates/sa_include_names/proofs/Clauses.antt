@@ -4,9 +4,9 @@ use Rattle.std.proofs.lemmas.List.{length-append, take_more}
 use Rattle.std.proofs.lemmas.List.Elements.{Contains-append_left, Contains-push, Contains-push_cases}
 use Rattle.std.specs.List.{Contains}
 use Rattle.sa_graph.specs.Paths.{HasEdge}
-use Rattle.sa_tree.specs.declared.class.Class.{Class}
-use Rattle.sa_tree.specs.declared.class.Include.{Include}
-use Rattle.sa_tree.specs.Types.{BareTy, Named, Same, Rout, Iter, bare}
+use Rattle.sa_ast.specs.declared.class.Class.{Class}
+use Rattle.sa_ast.specs.declared.class.Include.{Include}
+use Rattle.sa_ast.specs.Types.{BareTy, Named, Same, Rout, Iter, bare}
 use Rattle.sa_include_names.specs.declared.graph.Edges.{Edges}
 use Rattle.sa_include_names.specs.declared.names.ClassNumbers.{ClassNumbers}
 use Rattle.sa_include_names.specs.declared.names.ParamNames.{ParamNames}

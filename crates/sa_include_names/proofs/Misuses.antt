@@ -1,16 +1,16 @@
 -- Where a type may not stand, at each variant of a type.
 use Rattle.std.proofs.Common.{◌≡◌, ◌==◌, ◌&&◌, ◌<◌, ℕ, Bool, true, false, not, List, [], ◌∷◌, ◌++◌, Option, None, Some, length, get_or, drop, map, flat_map, slice_get, refl, sym, ap, ◌∙◌}
 use Rattle.std.proofs.lemmas.List.{length-map}
-use Rattle.sa_tree.specs.declared.class.Class.{Class}
-use Rattle.sa_tree.specs.declared.class.Kind.{Kind}
-use Rattle.sa_tree.specs.declared.pos.Pos.{Pos}
-use Rattle.sa_tree.specs.declared.ty.ModeTy.{ModeTy}
-use Rattle.sa_tree.specs.declared.ty.Ty.{Ty}
-use Rattle.sa_tree.specs.declared.ty.Ty.TheFolds.{fold-roll-Ty, fold_out-ModeTy}
-use Rattle.sa_tree.specs.declared.ty.Ty.TheOpen.{Ty-F}
-use Rattle.sa_tree.specs.declared.ty.Ty.TheVariants as ty
-use Rattle.sa_tree.specs.declared.ty.Ty.TheViews.{out-Ty, out-roll-Ty}
-use Rattle.sa_include_names.specs.Headers.{joined, joined_result, unless, may_stand, may_include, misused_above, misused_above_level, misused_include, misused_include_level, misused_level, misused_arg_level, misused, misused_arg, misused_types, misused_option}
+use Rattle.sa_ast.specs.declared.class.Class.{Class}
+use Rattle.sa_ast.specs.declared.class.ClassKind.{ClassKind}
+use Rattle.sa_ast.specs.declared.pos.Pos.{Pos}
+use Rattle.sa_ast.specs.declared.ty.ModeTy.{ModeTy}
+use Rattle.sa_ast.specs.declared.ty.Ty.{Ty}
+use Rattle.sa_ast.specs.declared.ty.Ty.TheFolds.{fold-roll-Ty, fold_out-ModeTy}
+use Rattle.sa_ast.specs.declared.ty.Ty.TheOpen.{Ty-F}
+use Rattle.sa_ast.specs.declared.ty.Ty.TheVariants as ty
+use Rattle.sa_ast.specs.declared.ty.Ty.TheViews.{out-Ty, out-roll-Ty}
+use Rattle.sa_include_names.specs.Headers.{joined, joined_result, unless, may_occur, may_include, misused_above, misused_above_level, misused_include, misused_include_level, misused_level, misused_arg_level, misused, misused_arg, misused_types, misused_option}
 use Rattle.sa_graph.proofs.Firsts.{first_some, first_none, first_here, first_later, first_nowhere}
 
 joined-map : {A : Type 0} (f : A → List Pos) (xs : List A) → joined (map f xs) ≡ flat_map f xs
@@ -57,8 +57,8 @@ arg_here may xs i x b h e here = first_here (misused_arg may) xs i x b h e (ap (
 
 -- ---- types by where they stand
 
-module _ (classes : List Class) (number : List ℕ → Option ℕ) (arrays : List Bool) (kind : Kind) (hidden : List ℕ → Bool) where
-  pub above-Named : (name : List ℕ) (given : List Ty) (pos : Pos) → misused_above classes number arrays kind hidden (ty.Named name given pos) ≡ unless (not ((length given == 0) && hidden name)) pos ++ misused (may_stand classes number arrays kind hidden) (ty.Named name given pos)
+module _ (classes : List Class) (number : List ℕ → Option ℕ) (arrays : List Bool) (kind : ClassKind) (hidden : List ℕ → Bool) where
+  pub above-Named : (name : List ℕ) (given : List Ty) (pos : Pos) → misused_above classes number arrays kind hidden (ty.Named name given pos) ≡ unless (not ((length given == 0) && hidden name)) pos ++ misused (may_occur classes number arrays kind hidden) (ty.Named name given pos)
   unfolding misused_above
   above-Named name given pos =
       ap (misused_above_level classes number arrays kind hidden (ty.Named name given pos)) (ap out-Ty (sym (ty.rolls-Named name given pos)) ∙ out-roll-Ty (Ty-F.Named name given pos))
@@ -75,7 +75,7 @@ module _ (classes : List Class) (number : List ℕ → Option ℕ) (arrays : Lis
   unfolding misused_above
   above-Iter args of pos = ap (misused_above_level classes number arrays kind hidden (ty.Iter args of pos)) (ap out-Ty (sym (ty.rolls-Iter args of pos)) ∙ out-roll-Ty (Ty-F.Iter args of pos))
 
-  pub include-Named : (name : List ℕ) (given : List Ty) (pos : Pos) → misused_include classes number arrays kind hidden (ty.Named name given pos) ≡ unless (may_include classes number arrays kind hidden name) pos ++ misused_types (may_stand classes number arrays kind hidden) given
+  pub include-Named : (name : List ℕ) (given : List Ty) (pos : Pos) → misused_include classes number arrays kind hidden (ty.Named name given pos) ≡ unless (may_include classes number arrays kind hidden name) pos ++ misused_types (may_occur classes number arrays kind hidden) given
   unfolding misused_include
   include-Named name given pos = ap (misused_include_level classes number arrays kind hidden) (ap out-Ty (sym (ty.rolls-Named name given pos)) ∙ out-roll-Ty (Ty-F.Named name given pos))
 
@@ -91,11 +91,11 @@ module _ (classes : List Class) (number : List ℕ → Option ℕ) (arrays : Lis
   unfolding misused_include
   include-Iter args of pos = ap (misused_include_level classes number arrays kind hidden) (ap out-Ty (sym (ty.rolls-Iter args of pos)) ∙ out-roll-Ty (Ty-F.Iter args of pos))
 
-module _ (classes : List Class) (number : List ℕ → Option ℕ) (arrays : List Bool) (kind : Kind) (hidden : List ℕ → Bool) where
+module _ (classes : List Class) (number : List ℕ → Option ℕ) (arrays : List Bool) (kind : ClassKind) (hidden : List ℕ → Bool) where
   -- what an included class is given
-  pub include_given : (t : Ty) (name : List ℕ) (given : List Ty) (pos : Pos) (may : Bool) (found : Option Pos) → t ≡ ty.Named name given pos → may ≡ may_include classes number arrays kind hidden name → may ≡ true → found ≡ slice_get (misused_types (may_stand classes number arrays kind hidden) given) 0 → found ≡ slice_get (misused_include classes number arrays kind hidden t) 0
+  pub include_given : (t : Ty) (name : List ℕ) (given : List Ty) (pos : Pos) (may : Bool) (found : Option Pos) → t ≡ ty.Named name given pos → may ≡ may_include classes number arrays kind hidden name → may ≡ true → found ≡ slice_get (misused_types (may_occur classes number arrays kind hidden) given) 0 → found ≡ slice_get (misused_include classes number arrays kind hidden t) 0
   include_given t name given pos may found same is held found_is =
-      found_is ∙ ap (λ b. slice_get (unless b pos ++ misused_types (may_stand classes number arrays kind hidden) given) 0) (sym (sym is ∙ held))
+      found_is ∙ ap (λ b. slice_get (unless b pos ++ misused_types (may_occur classes number arrays kind hidden) given) 0) (sym (sym is ∙ held))
       ∙ ap (λ ps. slice_get ps 0) (sym (include-Named classes number arrays kind hidden name given pos)) ∙ ap (λ u. slice_get (misused_include classes number arrays kind hidden u) 0) (sym same)
 
 -- the first of four lists, of which the first three are empty

@@ -5,9 +5,9 @@ use Rattle.std.proofs.lemmas.List.{length-take-le, take-append-le, take_all, tak
 use Rattle.std.proofs.lemmas.Option.{slice_get_read}
 use Rattle.std.specs.Cmp.Lexicographic.{pointwise, bytes_decides}
 use Rattle.indexmap.specs.IndexMap.{Updates}
-use Rattle.sa_tree.specs.declared.class.Class.{Class}
-use Rattle.sa_tree.specs.declared.refusal.Refusal.{Refusal}
-use Rattle.sa_tree.specs.declared.rule.Rule.TheVariants as rule
+use Rattle.sa_ast.specs.declared.class.Class.{Class}
+use Rattle.sa_ast.specs.declared.refusal.Refusal.{Refusal}
+use Rattle.sa_ast.specs.declared.rule.Rule.TheVariants as rule
 use Rattle.sa_include_names.specs.declared.names.ClassNumbers.{ClassNumbers}
 use Rattle.sa_include_names.specs.Names.{number_from, number_of, DifferInName}
 use Rattle.sa_include_names.specs.Refusals.{RefusesRepeated}

@@ -1,10 +1,10 @@
 -- What names mean in a class, by its tables.
 use Rattle.std.proofs.Common.{◌≡◌, ℕ, Bool, List, [], ◌∷◌, Option, None, Some, slice_get, refl, sym, ap, ◌∙◌}
 use Rattle.std.proofs.Math.Path.{fun_ext}
-use Rattle.sa_tree.specs.declared.class.Class.{Class}
-use Rattle.sa_tree.specs.declared.pos.Pos.{Pos}
-use Rattle.sa_tree.specs.declared.refusal.Refusal.{Refusal}
-use Rattle.sa_tree.specs.declared.rule.Rule.TheVariants as rule
+use Rattle.sa_ast.specs.declared.class.Class.{Class}
+use Rattle.sa_ast.specs.declared.pos.Pos.{Pos}
+use Rattle.sa_ast.specs.declared.refusal.Refusal.{Refusal}
+use Rattle.sa_ast.specs.declared.rule.Rule.TheVariants as rule
 use Rattle.sa_include_names.specs.declared.names.ClassNumbers.{ClassNumbers}
 use Rattle.sa_include_names.specs.declared.names.ParamNames.{ParamNames}
 use Rattle.sa_include_names.specs.Headers.{misused_class, misused_in, misused_names}

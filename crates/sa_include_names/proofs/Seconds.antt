@@ -4,7 +4,7 @@ use Rattle.std.proofs.lemmas.List.{take_more}
 use Rattle.std.proofs.lemmas.List.Sums.{sum_by-append}
 use Rattle.std.proofs.lemmas.Option.{slice_get_read}
 use Rattle.std.specs.Prelude.{count_by}
-use Rattle.sa_tree.specs.declared.class.Include.{Include}
+use Rattle.sa_ast.specs.declared.class.Include.{Include}
 use Rattle.sa_include_names.specs.Includes.{IsSecond}
 
 -- one clause more

@@ -1,13 +1,13 @@
 -- The includes of a program's classes, put together.
 use Rattle.std.proofs.Common.{◌≡◌, ◌↔◌, ℕ, ◌<◌, Bool, true, false, List, [], ◌∷◌, Option, None, Some, length, set, slice_get, refl, sym, ap, subst, ◌∙◌, ◌⊎◌, inl, inr, ⊎_elim}
 use Rattle.std.proofs.lemmas.Bool.{false≢true}
-use Rattle.sa_graph.specs.Paths.{HasEdge, IsEdge, IsFirst, IsOnCycle, Leads, NoneBefore, ends_of, node_count, starts_of}
+use Rattle.sa_graph.specs.Paths.{HasEdge, IsEdge, IsFirst, IsOnCycle, HasPath, NoneBefore, ends_of, node_count, starts_of}
 use Rattle.sa_graph.specs.Reaching.{AreReaching, Reaches}
 use Rattle.sa_graph.specs.declared.graph.Graph.{Graph}
 use Rattle.sa_graph.proofs.Turned.{leads_along, first_edge}
 use Rattle.std.proofs.lemmas.Option.{slice_get_within}
-use Rattle.sa_tree.specs.declared.class.Class.{Class}
-use Rattle.sa_tree.specs.declared.refusal.Refusal.{Refusal}
+use Rattle.sa_ast.specs.declared.class.Class.{Class}
+use Rattle.sa_ast.specs.declared.refusal.Refusal.{Refusal}
 use Rattle.sa_include_names.specs.declared.graph.Edges.{Edges}
 use Rattle.sa_include_names.specs.declared.names.ClassNumbers.{ClassNumbers}
 use Rattle.sa_include_names.specs.Includes.{AreArrays, DoesInclude, HasArrayPart, IncludesItself, array_name, is_set}
@@ -25,10 +25,10 @@ graph_of classes edges graph are count starts ends = record {
 }
 
 module _ (classes : List Class) (graph : Graph) (of : AreGraphOf classes graph) where
-  include_way : (a b : ℕ) → Leads (IsEdge graph) a b → Leads (DoesInclude classes) a b
+  include_way : (a b : ℕ) → HasPath (IsEdge graph) a b → HasPath (DoesInclude classes) a b
   include_way = leads_along (IsEdge graph) (DoesInclude classes) (λ a b e. (of.includes a b).0 e)
 
-  graph_way : (a b : ℕ) → Leads (DoesInclude classes) a b → Leads (IsEdge graph) a b
+  graph_way : (a b : ℕ) → HasPath (DoesInclude classes) a b → HasPath (IsEdge graph) a b
   graph_way = leads_along (DoesInclude classes) (IsEdge graph) (λ a b d. (of.includes a b).1 d)
 
   -- ---- array parts
@@ -49,11 +49,11 @@ module _ (classes : List Class) (graph : Graph) (of : AreGraphOf classes graph) 
       known : number_of classes array_name ≡ Some array
       known = sym (numbered.each array_name) ∙ ap (number_in numbers) (sym named) ∙ sym is ∙ some
 
-      way : (n : ℕ) → Reaches graph array n → (n ≡ array) ⊎ Leads (DoesInclude classes) n array
+      way : (n : ℕ) → Reaches graph array n → (n ≡ array) ⊎ HasPath (DoesInclude classes) n array
       way n (inl e) = inl e
       way n (inr w) = inr (include_way n array w)
 
-      back : (n a : ℕ) → (n ≡ a) ⊎ Leads (DoesInclude classes) n a → Reaches graph a n
+      back : (n a : ℕ) → (n ≡ a) ⊎ HasPath (DoesInclude classes) n a → Reaches graph a n
       back n a (inl e) = inl e
       back n a (inr w) = inr (graph_way n a w)
 
@@ -82,7 +82,7 @@ module _ (classes : List Class) (graph : Graph) (of : AreGraphOf classes graph) 
     cycle = λ number h. none.none number (subst (λ n. number < n) (sym of.count) (inside number number h)) (graph_way number number h);
   }
     where
-      inside : (a b : ℕ) → Leads (DoesInclude classes) a b → a < length classes
+      inside : (a b : ℕ) → HasPath (DoesInclude classes) a b → a < length classes
       inside a b way = let e = first_edge (DoesInclude classes) a b way in slice_get_within classes a e.1.class e.1.at
 
 pub first_named : (classes : List Class) (graph : Graph) (number : ℕ) (refusal : Refusal) → IsFirst graph number → IsNamed classes number refusal → CycleAt classes graph refusal

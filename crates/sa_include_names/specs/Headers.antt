@@ -5,16 +5,16 @@ use Rattle.std.specs.Prelude.{codes, cond, flat_map, length, nat_eq, slice_get}
 use Rattle.std.specs.Cmp.Lexicographic.{pointwise}
 use Rattle.std.specs.List.{list_any}
 use Rattle.std.specs.Option.{option_map_or}
-use Rattle.sa_tree.specs.declared.class.Class.{Class}
-use Rattle.sa_tree.specs.declared.class.Kind.{Kind}
-use Rattle.sa_tree.specs.declared.class.Kind.TheVariants as kind
-use Rattle.sa_tree.specs.declared.class.Param.{Param}
-use Rattle.sa_tree.specs.declared.pos.Pos.{Pos}
-use Rattle.sa_tree.specs.declared.ty.ModeTy.{ModeTy}
-use Rattle.sa_tree.specs.declared.ty.Ty.{Ty}
-use Rattle.sa_tree.specs.declared.ty.Ty.TheOpen.{Ty-F, ModeTy-F}
-use Rattle.sa_tree.specs.declared.ty.Ty.TheFolds.{fold-Ty, fold-ModeTy}
-use Rattle.sa_tree.specs.declared.ty.Ty.TheViews.{out-Ty}
+use Rattle.sa_ast.specs.declared.class.Class.{Class}
+use Rattle.sa_ast.specs.declared.class.ClassKind.{ClassKind}
+use Rattle.sa_ast.specs.declared.class.ClassKind.TheVariants as kind
+use Rattle.sa_ast.specs.declared.class.TypeParam.{TypeParam}
+use Rattle.sa_ast.specs.declared.pos.Pos.{Pos}
+use Rattle.sa_ast.specs.declared.ty.ModeTy.{ModeTy}
+use Rattle.sa_ast.specs.declared.ty.Ty.{Ty}
+use Rattle.sa_ast.specs.declared.ty.Ty.TheOpen.{Ty-F, ModeTy-F}
+use Rattle.sa_ast.specs.declared.ty.Ty.TheFolds.{fold-Ty, fold-ModeTy}
+use Rattle.sa_ast.specs.declared.ty.Ty.TheViews.{out-Ty}
 use Rattle.sa_include_names.specs.Includes.{is_set}
 use Rattle.sa_include_names.specs.Names.{hides, number_of}
 
@@ -57,15 +57,15 @@ module _ (may : List ℕ → Bool → Bool) where
 
 -- ---- which names may stand
 
-abbrev pub is_no_partial : Kind → Bool
+abbrev pub is_no_partial : ClassKind → Bool
 is_no_partial kind.Partial = false
 is_no_partial _ = true
 
-abbrev pub is_no_abstract : Kind → Bool
+abbrev pub is_no_abstract : ClassKind → Bool
 is_no_abstract kind.Abstract = false
 is_no_abstract _ = true
 
-abbrev pub is_no_immutable : Kind → Bool
+abbrev pub is_no_immutable : ClassKind → Bool
 is_no_immutable kind.Immutable = false
 is_no_immutable _ = true
 
@@ -78,7 +78,7 @@ is_never_included name = list_any (pointwise nat_eq name) never_included
 
 -- in a class of this kind, where the names of classes have these numbers, the classes with an array part are marked, and some names
 -- are those of parameters
-module _ (classes : List Class) (number : List ℕ → Option ℕ) (arrays : List Bool) (including : Kind) (hidden : List ℕ → Bool) where
+module _ (classes : List Class) (number : List ℕ → Option ℕ) (arrays : List Bool) (including : ClassKind) (hidden : List ℕ → Bool) where
   -- the number of the class that a name is, where it is that of no parameter
   abbrev pub number_seen : List ℕ → Option ℕ
   number_seen name = cond (hidden name) None (number name)
@@ -89,8 +89,8 @@ module _ (classes : List Class) (number : List ℕ → Option ℕ) (arrays : Lis
   class_passes test (Some k) = option_map_or (test k) (slice_get classes k) false
 
   -- a name may stand as a type: it is a parameter, or the name of a class that isn't partial
-  abbrev pub may_stand : List ℕ → Bool → Bool
-  may_stand name alone = alone && hidden name || class_passes (λ k c. is_no_partial c.kind) (number_seen name)
+  abbrev pub may_occur : List ℕ → Bool → Bool
+  may_occur name alone = alone && hidden name || class_passes (λ k c. is_no_partial c.kind) (number_seen name)
 
   -- a class may be included: it isn't abstract, and none of those; and an immutable class includes none with an array part
   abbrev pub passes_as_included : List ℕ → ℕ → Class → Bool
@@ -104,7 +104,7 @@ module _ (classes : List Class) (number : List ℕ → Option ℕ) (arrays : Lis
 
   -- a type after `>` is no bound type and no parameter
   abbrev pub misused_above_level : Ty → Ty-F Ty ModeTy → List Pos
-  misused_above_level t (Ty-F.Named name given pos) = unless (not ((length given == 0) && hidden name)) pos ++ misused may_stand t
+  misused_above_level t (Ty-F.Named name given pos) = unless (not ((length given == 0) && hidden name)) pos ++ misused may_occur t
   misused_above_level t (Ty-F.Same pos) = []
   misused_above_level t (Ty-F.Rout args of pos) = pos ∷ []
   misused_above_level t (Ty-F.Iter args of pos) = pos ∷ []
@@ -114,7 +114,7 @@ module _ (classes : List Class) (number : List ℕ → Option ℕ) (arrays : Lis
 
   -- the type of an include clause
   abbrev pub misused_include_level : Ty-F Ty ModeTy → List Pos
-  misused_include_level (Ty-F.Named name given pos) = unless (may_include name) pos ++ misused_types may_stand given
+  misused_include_level (Ty-F.Named name given pos) = unless (may_include name) pos ++ misused_types may_occur given
   misused_include_level (Ty-F.Same pos) = pos ∷ []
   misused_include_level (Ty-F.Rout args of pos) = pos ∷ []
   misused_include_level (Ty-F.Iter args of pos) = pos ∷ []
@@ -125,7 +125,7 @@ module _ (classes : List Class) (number : List ℕ → Option ℕ) (arrays : Lis
   -- in the bounds, after `<`, after `>` and in the include clauses of a class
   unfoldable pub misused_in : Class → List Pos
   misused_in c =
-      flat_map (λ p. misused_option may_stand p.bound) c.params ++ misused_types may_stand c.below
+      flat_map (λ p. misused_option may_occur p.bound) c.params ++ misused_types may_occur c.below
       ++ flat_map misused_above c.above ++ flat_map (λ i. misused_include i.ty) c.includes
 
 -- in a class of a program, where the classes with an array part are marked

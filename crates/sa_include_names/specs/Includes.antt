@@ -3,10 +3,10 @@ use Rattle.std.specs.Prelude.{◌≡◌, ◌⊎◌, ◌↔◌, ◌≤◌, Bool, 
 use Rattle.std.specs.Prelude.{codes, cond, count_by, slice_get, take}
 use Rattle.std.specs.List.{slice_index_or}
 use Rattle.std.specs.Option.{option_map_or}
-use Rattle.sa_tree.specs.declared.class.Class.{Class}
-use Rattle.sa_tree.specs.declared.class.Include.{Include}
-use Rattle.sa_tree.specs.Types.{BareTy, Named, bare}
-use Rattle.sa_graph.specs.Paths.{Leads}
+use Rattle.sa_ast.specs.declared.class.Class.{Class}
+use Rattle.sa_ast.specs.declared.class.Include.{Include}
+use Rattle.sa_ast.specs.Types.{BareTy, Named, bare}
+use Rattle.sa_graph.specs.Paths.{HasPath}
 use Rattle.sa_include_names.specs.Names.{hides, number_of}
 
 -- the class that a type of an include clause names, which is none where a parameter has the name
@@ -24,7 +24,7 @@ pub record DoesInclude (classes : List Class) (from to : ℕ) : Type 0 where
 
 -- a class includes itself, by itself or by others
 abbrev pub IncludesItself : List Class → ℕ → Type 0
-IncludesItself classes number = Leads (DoesInclude classes) number number
+IncludesItself classes number = HasPath (DoesInclude classes) number number
 
 -- `AREF`, the class that has the array part
 abbrev pub array_name : List ℕ
@@ -34,7 +34,7 @@ array_name = codes "AREF"
 abbrev pub HasArrayPart : List Class → ℕ → Type 0
 HasArrayPart classes number =
     (array : ℕ) × (number_of classes array_name ≡ Some array)
-    × ((number ≡ array) ⊎ Leads (DoesInclude classes) number array)
+    × ((number ≡ array) ⊎ HasPath (DoesInclude classes) number array)
 
 abbrev pub is_set : List Bool → ℕ → Bool
 is_set marks number = slice_index_or marks number false

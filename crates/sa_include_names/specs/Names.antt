@@ -2,8 +2,8 @@
 use Rattle.std.specs.Prelude.{◌≡◌, ◌≢◌, ◌&&◌, Bool, ℕ, suc, List, [], ◌∷◌, Option, None, Some, cond, nat_eq, slice_get, take}
 use Rattle.std.specs.Cmp.Lexicographic.{pointwise}
 use Rattle.std.specs.List.{list_any}
-use Rattle.sa_tree.specs.declared.class.Class.{Class}
-use Rattle.sa_tree.specs.declared.class.Param.{Param}
+use Rattle.sa_ast.specs.declared.class.Class.{Class}
+use Rattle.sa_ast.specs.declared.class.TypeParam.{TypeParam}
 
 -- the place of the first class with a name, where the first of the list has this one
 abbrev pub number_from : ℕ → List Class → List ℕ → Option ℕ
@@ -25,5 +25,5 @@ pub record RepeatsName (classes : List Class) (place : ℕ) (c : Class) : Type 0
   pub first : DifferInName (take place classes)
 
 -- whether a parameter has the name: it hides the class of that name
-abbrev pub hides : List Param → List ℕ → Bool
+abbrev pub hides : List TypeParam → List ℕ → Bool
 hides params name = list_any (λ p. pointwise nat_eq p.name.name name) params

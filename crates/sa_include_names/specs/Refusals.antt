@@ -1,9 +1,9 @@
 -- What the classes of a program are refused by for their names and their includes: the first class with the name of an earlier one;
 -- where there is none, the first name that may not stand where it does; and where there is none, the first class that includes itself.
 use Rattle.std.specs.Prelude.{◌≡◌, ◌⊎◌, ℕ, ◌<◌, Bool, List, [], Some, slice_get}
-use Rattle.sa_tree.specs.declared.class.Class.{Class}
-use Rattle.sa_tree.specs.declared.refusal.Refusal.{Refusal}
-use Rattle.sa_tree.specs.declared.rule.Rule.TheVariants as rule
+use Rattle.sa_ast.specs.declared.class.Class.{Class}
+use Rattle.sa_ast.specs.declared.refusal.Refusal.{Refusal}
+use Rattle.sa_ast.specs.declared.rule.Rule.TheVariants as rule
 use Rattle.sa_include_names.specs.Headers.{misused_names}
 use Rattle.sa_include_names.specs.Includes.{AreArrays, IncludesItself}
 use Rattle.sa_include_names.specs.Names.{DifferInName, RepeatsName}

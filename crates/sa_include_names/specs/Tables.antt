@@ -3,20 +3,20 @@ use Rattle.std.specs.Prelude.{◌≡◌, ◌⊎◌, ◌↔◌, Bool, ℕ, List, 
 use Rattle.std.specs.Cmp.Lexicographic.{pointwise}
 use Rattle.indexmap.specs.IndexMap.{get}
 use Rattle.indexmap.specs.IndexSet.{contains}
-use Rattle.sa_tree.specs.declared.class.Class.{Class}
-use Rattle.sa_tree.specs.declared.class.Include.{Include}
-use Rattle.sa_tree.specs.declared.class.Param.{Param}
-use Rattle.sa_tree.specs.declared.pos.Pos.{Pos}
-use Rattle.sa_tree.specs.declared.refusal.Refusal.{Refusal}
-use Rattle.sa_tree.specs.declared.rule.Rule.TheVariants as rule
-use Rattle.sa_tree.specs.declared.ty.Ty.{Ty}
-use Rattle.sa_tree.specs.Types.{BareTy, Named, bare}
+use Rattle.sa_ast.specs.declared.class.Class.{Class}
+use Rattle.sa_ast.specs.declared.class.Include.{Include}
+use Rattle.sa_ast.specs.declared.class.TypeParam.{TypeParam}
+use Rattle.sa_ast.specs.declared.pos.Pos.{Pos}
+use Rattle.sa_ast.specs.declared.refusal.Refusal.{Refusal}
+use Rattle.sa_ast.specs.declared.rule.Rule.TheVariants as rule
+use Rattle.sa_ast.specs.declared.ty.Ty.{Ty}
+use Rattle.sa_ast.specs.Types.{BareTy, Named, bare}
 use Rattle.sa_graph.specs.Paths.{HasEdge, IsEdge, IsFirst, node_count}
 use Rattle.sa_graph.specs.declared.graph.Graph.{Graph}
-use Rattle.sa_include_names.specs.Headers.{may_include, may_stand, misused_above, misused_in, misused_include, misused_names}
+use Rattle.sa_include_names.specs.Headers.{may_include, may_occur, misused_above, misused_in, misused_include, misused_names}
 use Rattle.sa_include_names.specs.Headers.{passes_as_included}
 use Rattle.sa_include_names.specs.declared.graph.Edges.{Edges}
-use Rattle.sa_include_names.specs.declared.header.Scope.{Scope}
+use Rattle.sa_include_names.specs.declared.header.NameScope.{NameScope}
 use Rattle.sa_include_names.specs.declared.names.ClassNumbers.{ClassNumbers}
 use Rattle.sa_include_names.specs.declared.names.ParamNames.{ParamNames}
 use Rattle.sa_include_names.specs.Includes.{DoesInclude}
@@ -31,29 +31,29 @@ pub record HasNumbers (classes : List Class) (numbers : ClassNumbers) : Type 0 w
 abbrev pub hidden_in : ParamNames → List ℕ → Bool
 hidden_in params name = contains (pointwise nat_eq) params.names name
 
-abbrev pub HasParams : List Param → ParamNames → Type 0
+abbrev pub HasParams : List TypeParam → ParamNames → Type 0
 HasParams params names = (name : List ℕ) → hidden_in names name ≡ hides params name
 
 -- ---- what names mean in a class
 
-abbrev pub stands_in : Scope → List ℕ → Bool → Bool
-stands_in scope = may_stand scope.classes.now (number_in scope.numbers.now) scope.arrays.now scope.kind (hidden_in scope.params)
+abbrev pub occurs_in : NameScope → List ℕ → Bool → Bool
+occurs_in scope = may_occur scope.classes.now (number_in scope.numbers.now) scope.arrays.now scope.kind (hidden_in scope.params)
 
-abbrev pub misused_above_in : Scope → Ty → List Pos
+abbrev pub misused_above_in : NameScope → Ty → List Pos
 misused_above_in scope = misused_above scope.classes.now (number_in scope.numbers.now) scope.arrays.now scope.kind (hidden_in scope.params)
 
-abbrev pub includes_in : Scope → List ℕ → Bool
+abbrev pub includes_in : NameScope → List ℕ → Bool
 includes_in scope = may_include scope.classes.now (number_in scope.numbers.now) scope.arrays.now scope.kind (hidden_in scope.params)
 
-abbrev pub passes_in : Scope → List ℕ → ℕ → Class → Bool
+abbrev pub passes_in : NameScope → List ℕ → ℕ → Class → Bool
 passes_in scope =
     passes_as_included scope.classes.now (number_in scope.numbers.now) scope.arrays.now scope.kind (hidden_in scope.params)
 
-abbrev pub misused_include_in : Scope → Ty → List Pos
+abbrev pub misused_include_in : NameScope → Ty → List Pos
 misused_include_in scope =
     misused_include scope.classes.now (number_in scope.numbers.now) scope.arrays.now scope.kind (hidden_in scope.params)
 
-abbrev pub misused_class_in : Scope → Class → List Pos
+abbrev pub misused_class_in : NameScope → Class → List Pos
 misused_class_in scope = misused_in scope.classes.now (number_in scope.numbers.now) scope.arrays.now scope.kind (hidden_in scope.params)
 
 -- the first of them

@@ -1,13 +1,13 @@
 //! Which classes include which, and which have the array part by their includes.
 
 ghost use Rattle.std.specs.Prelude.{◌≡◌, IfOk, OnOk};
-ghost use Rattle.sa_tree.specs.Types.{bare};
+ghost use Rattle.sa_ast.specs.Types.{bare};
 ghost use Rattle.sa_include_names.specs.Includes.{AreArrays, is_set};
 ghost use Rattle.sa_include_names.specs.Tables.{AddsEdges, AreEdges, AreGraphOf, HasNumbers, IsNumber, NamesHere, included_in};
 
 use crate::names::{ClassNumbers, ParamNames};
+use sa_ast::{Class, Include, Name, NoMemory, Ty};
 use sa_graph::{Graph, word};
-use sa_tree::{Class, Include, Name, NoMemory, Ty};
 use std::alloc::Global;
 
 /// The class that has the array part.
@@ -86,7 +86,7 @@ impl Edges {
 }
 
 /// The class that the type of an include clause names.
-#[tactic(auto, using(sa_tree::proofs::BareTypes::bares))]
+#[tactic(auto, using(sa_ast::proofs::BareTypes::bares))]
 fn included_class(ty: &Ty, params: &ParamNames, numbers: &ClassNumbers) -> Option<u32>
     ensures { result ≡ included_in params.now numbers.now (bare ty.now) }
 {

@@ -4,23 +4,23 @@ ghost use Rattle.std.specs.Prelude.{◌≡◌, ◌&&◌, ◌==◌, IfOk, None, c
 ghost use Rattle.sa_include_names.specs.Headers.{is_never_included, misused, misused_arg, misused_class, misused_names, misused_option};
 ghost use Rattle.sa_include_names.specs.Headers.{misused_types};
 ghost use Rattle.sa_include_names.specs.Tables.{HasNumbers, first, hidden_in, includes_in, misused_above_in, misused_class_in};
-ghost use Rattle.sa_include_names.specs.Tables.{misused_include_in, number_in, passes_in, stands_in};
+ghost use Rattle.sa_include_names.specs.Tables.{misused_include_in, number_in, passes_in, occurs_in};
 
 use crate::graph::is_marked;
 use crate::names::{ClassNumbers, ParamNames};
-use sa_tree::{Class, Include, Kind, ModeTy, Name, NoMemory, Param, Pos, Ty};
+use sa_ast::{Class, ClassKind, Include, ModeTy, Name, NoMemory, Pos, Ty, TypeParam};
 use sqlite_items::Boxed;
 use std::alloc::Global;
 
 /// What names may mean in a class.
 #[derive(Drop)]
-struct Scope<'a> {
+struct NameScope<'a> {
     classes: &'a [Class],
     numbers: &'a ClassNumbers,
     /// For each class whether it is AREF or reaches it by its includes.
     arrays: &'a [bool],
     /// The kind of the class.
-    kind: Kind,
+    kind: ClassKind,
     params: ParamNames,
 }
 
@@ -56,7 +56,7 @@ fn in_one(
     requires { HasNumbers classes.now numbers.now }
     ensures { IfOk result (λ pos. pos ≡ first (misused_class classes.now arrays.now class.now)) }
 {
-    let scope = Scope {
+    let scope = NameScope {
         classes,
         numbers,
         arrays,
@@ -70,7 +70,7 @@ fn in_one(
 /// The same in the header of a class, in which are the bounds of parameters, the types after `<` and those after `>`, and in its
 /// include clauses.
 #[tactic(auto, using(crate::proofs::Misuses::firsts), unfolding(crate::specs::Headers::misused_in))]
-fn in_class(scope: &Scope<'_>, class: &Class) -> Option<Pos>
+fn in_class(scope: &NameScope<'_>, class: &Class) -> Option<Pos>
     ensures { result ≡ first (misused_class_in scope.now class.now) }
 {
     match in_bounds(scope, class.params.as_slice()) {
@@ -86,8 +86,8 @@ fn in_class(scope: &Scope<'_>, class: &Class) -> Option<Pos>
 }
 
 #[tactic(auto, using(crate::proofs::Misuses::firsts))]
-fn in_bounds(scope: &Scope<'_>, params: &[Param]) -> Option<Pos>
-    ensures { result ≡ first (flat_map (λ p. misused_option (stands_in scope.now) p.bound) params.now) }
+fn in_bounds(scope: &NameScope<'_>, params: &[TypeParam]) -> Option<Pos>
+    ensures { result ≡ first (flat_map (λ p. misused_option (occurs_in scope.now) p.bound) params.now) }
 {
     for param in params {
         if let Some(pos) = in_bound(scope, &param.bound) {
@@ -97,8 +97,8 @@ fn in_bounds(scope: &Scope<'_>, params: &[Param]) -> Option<Pos>
     None
 }
 
-fn in_bound(scope: &Scope<'_>, bound: &Option<Ty>) -> Option<Pos>
-    ensures { result ≡ first (misused_option (stands_in scope.now) bound.now) }
+fn in_bound(scope: &NameScope<'_>, bound: &Option<Ty>) -> Option<Pos>
+    ensures { result ≡ first (misused_option (occurs_in scope.now) bound.now) }
 {
     match bound {
         None => None,
@@ -107,7 +107,7 @@ fn in_bound(scope: &Scope<'_>, bound: &Option<Ty>) -> Option<Pos>
 }
 
 #[tactic(auto, using(crate::proofs::Misuses::firsts))]
-fn in_all_above(scope: &Scope<'_>, above: &[Ty]) -> Option<Pos>
+fn in_all_above(scope: &NameScope<'_>, above: &[Ty]) -> Option<Pos>
     ensures { result ≡ first (flat_map (misused_above_in scope.now) above.now) }
 {
     for ty in above {
@@ -120,7 +120,7 @@ fn in_all_above(scope: &Scope<'_>, above: &[Ty]) -> Option<Pos>
 
 /// The same in a type after `>`, which is no bound type and no parameter.
 #[tactic(auto, using(crate::proofs::Misuses::above))]
-fn in_above(scope: &Scope<'_>, ty: &Ty) -> Option<Pos>
+fn in_above(scope: &NameScope<'_>, ty: &Ty) -> Option<Pos>
     ensures { result ≡ first (misused_above_in scope.now ty.now) }
 {
     match ty {
@@ -137,7 +137,7 @@ fn in_above(scope: &Scope<'_>, ty: &Ty) -> Option<Pos>
 }
 
 /// Whether a name with these parameters is that of a parameter of the class.
-fn is_param(scope: &Scope<'_>, name: &Name, given: &[Ty]) -> bool
+fn is_param(scope: &NameScope<'_>, name: &Name, given: &[Ty]) -> bool
     ensures { result ≡ ((length given.now == 0) && hidden_in scope.now.params name.now) }
 {
     given.is_empty() && scope.params.hides(name)
@@ -146,12 +146,12 @@ fn is_param(scope: &Scope<'_>, name: &Name, given: &[Ty]) -> bool
 /// The same in a type: each name in it is that of a parameter, or of a class that isn't partial.
 #[tactic(auto, using(crate::proofs::Misuses::misuses))]
 #[cycle(types)]
-fn in_type(scope: &Scope<'_>, ty: &Ty) -> Option<Pos>
-    ensures { result ≡ first (misused (stands_in scope.now) ty.now) }
+fn in_type(scope: &NameScope<'_>, ty: &Ty) -> Option<Pos>
+    ensures { result ≡ first (misused (occurs_in scope.now) ty.now) }
 {
     match ty {
         Ty::Named(name, given, pos) => {
-            if !may_stand(scope, name, given.as_slice()) {
+            if !may_occur(scope, name, given.as_slice()) {
                 return Some(*pos);
             }
             in_types(scope, given.as_slice())
@@ -170,8 +170,8 @@ fn in_type(scope: &Scope<'_>, ty: &Ty) -> Option<Pos>
 
 #[tactic(auto, using(crate::proofs::Misuses::misuses))]
 #[cycle(types)]
-fn in_types(scope: &Scope<'_>, types: &[Ty]) -> Option<Pos>
-    ensures { result ≡ first (misused_types (stands_in scope.now) types.now) }
+fn in_types(scope: &NameScope<'_>, types: &[Ty]) -> Option<Pos>
+    ensures { result ≡ first (misused_types (occurs_in scope.now) types.now) }
 {
     for ty in types {
         if let Some(pos) = in_type(scope, ty) {
@@ -183,8 +183,8 @@ fn in_types(scope: &Scope<'_>, types: &[Ty]) -> Option<Pos>
 
 #[tactic(auto, using(crate::proofs::Misuses::misuses))]
 #[cycle(types)]
-fn in_args(scope: &Scope<'_>, args: &[ModeTy]) -> Option<Pos>
-    ensures { result ≡ first (flat_map (misused_arg (stands_in scope.now)) args.now) }
+fn in_args(scope: &NameScope<'_>, args: &[ModeTy]) -> Option<Pos>
+    ensures { result ≡ first (flat_map (misused_arg (occurs_in scope.now)) args.now) }
 {
     for arg in args {
         if let Some(pos) = in_type(scope, &arg.ty) {
@@ -196,8 +196,8 @@ fn in_args(scope: &Scope<'_>, args: &[ModeTy]) -> Option<Pos>
 
 #[tactic(auto, using(crate::proofs::Misuses::misuses))]
 #[cycle(types)]
-fn in_result(scope: &Scope<'_>, of: &Option<Boxed<Ty>>) -> Option<Pos>
-    ensures { result ≡ first (misused_option (stands_in scope.now) of.now) }
+fn in_result(scope: &NameScope<'_>, of: &Option<Boxed<Ty>>) -> Option<Pos>
+    ensures { result ≡ first (misused_option (occurs_in scope.now) of.now) }
 {
     match of {
         None => None,
@@ -207,15 +207,15 @@ fn in_result(scope: &Scope<'_>, of: &Option<Boxed<Ty>>) -> Option<Pos>
 
 /// Whether a name with these parameters may stand as a type: alone it may be that of a parameter. Partial classes are no
 /// types, nor are those that a parameter hides.
-fn may_stand(scope: &Scope<'_>, name: &Name, given: &[Ty]) -> bool
-    ensures { result ≡ stands_in scope.now name.now (length given.now == 0) }
+fn may_occur(scope: &NameScope<'_>, name: &Name, given: &[Ty]) -> bool
+    ensures { result ≡ occurs_in scope.now name.now (length given.now == 0) }
 {
     if given.is_empty() && scope.params.hides(name) {
         return true;
     }
     match class_of(scope, name) {
         Some(number) => match scope.classes.get(number as usize) {
-            Some(class) => class.kind != Kind::Partial,
+            Some(class) => class.kind != ClassKind::Partial,
             None => false,
         },
         None => false,
@@ -223,7 +223,7 @@ fn may_stand(scope: &Scope<'_>, name: &Name, given: &[Ty]) -> bool
 }
 
 /// The number of the class of this name, unless a parameter hides it.
-fn class_of(scope: &Scope<'_>, name: &Name) -> Option<u32>
+fn class_of(scope: &NameScope<'_>, name: &Name) -> Option<u32>
     ensures { result ≡ cond (hidden_in scope.now.params name.now) None (number_in scope.now.numbers.now name.now) }
 {
     if scope.params.hides(name) {
@@ -234,7 +234,7 @@ fn class_of(scope: &Scope<'_>, name: &Name) -> Option<u32>
 }
 
 #[tactic(auto, using(crate::proofs::Misuses::firsts))]
-fn in_includes(scope: &Scope<'_>, includes: &[Include]) -> Option<Pos>
+fn in_includes(scope: &NameScope<'_>, includes: &[Include]) -> Option<Pos>
     ensures { result ≡ first (flat_map (λ i. misused_include_in scope.now i.ty) includes.now) }
 {
     for include in includes {
@@ -247,7 +247,7 @@ fn in_includes(scope: &Scope<'_>, includes: &[Include]) -> Option<Pos>
 
 /// The same in the type of an include clause: that of a class that may be included in the class. What it is given are types.
 #[tactic(auto, using(crate::proofs::Misuses::including))]
-fn in_include(scope: &Scope<'_>, ty: &Ty) -> Option<Pos>
+fn in_include(scope: &NameScope<'_>, ty: &Ty) -> Option<Pos>
     ensures { result ≡ first (misused_include_in scope.now ty.now) }
 {
     match ty {
@@ -266,7 +266,7 @@ fn in_include(scope: &Scope<'_>, ty: &Ty) -> Option<Pos>
 /// Whether the class may include the class with this name: an abstract class and the classes of the built-in values and of
 /// input and output are never included, and an immutable class has no array part.
 #[tactic(auto, unfolding(crate::specs::Headers::may_include))]
-fn may_include(scope: &Scope<'_>, name: &Name) -> bool
+fn may_include(scope: &NameScope<'_>, name: &Name) -> bool
     ensures { result ≡ includes_in scope.now name.now }
 {
     match class_of(scope, name) {
@@ -279,16 +279,16 @@ fn may_include(scope: &Scope<'_>, name: &Name) -> bool
 }
 
 /// The same of the class with this name and number.
-fn passes(scope: &Scope<'_>, name: &Name, number: u32, class: &Class) -> bool
+fn passes(scope: &NameScope<'_>, name: &Name, number: u32, class: &Class) -> bool
     ensures { result ≡ passes_in scope.now name.now number class.now }
 {
-    if class.kind == Kind::Abstract {
+    if class.kind == ClassKind::Abstract {
         return false;
     }
     if is_never_included(name.as_slice()) {
         return false;
     }
-    if scope.kind != Kind::Immutable {
+    if scope.kind != ClassKind::Immutable {
         return true;
     }
     !is_marked(scope.arrays, number)

@@ -4,14 +4,14 @@ ghost use Rattle.std.specs.Prelude.{◌≡◌, ◌≢◌, Err, IfOk, None, OnOk,
 ghost use Rattle.std.specs.Cmp.Lexicographic.{pointwise};
 ghost use Rattle.indexmap.specs.IndexMap.{Updates};
 ghost use Rattle.sa_include_names.specs.Names.{DifferInName};
-ghost use Rattle.sa_tree.specs.declared.refusal.FrontFault.TheVariants.{Refused};
-ghost use Rattle.sa_tree.specs.declared.refusal.Refusal.{Refusal};
+ghost use Rattle.sa_ast.specs.declared.refusal.Rejection.TheVariants.{Refused};
+ghost use Rattle.sa_ast.specs.declared.refusal.Refusal.{Refusal};
 ghost use Rattle.sa_include_names.specs.Refusals.{RefusesRepeated};
 ghost use Rattle.sa_include_names.specs.Tables.{HasNumbers, HasParams, hidden_in, number_in};
 
 use indexmap::{IndexMap, IndexSet};
+use sa_ast::{Class, Name, NoMemory, Rejection, Rule, TypeParam};
 use sa_graph::word;
-use sa_tree::{Class, FrontFault, Name, NoMemory, Param, Rule};
 use std::alloc::{AllocError, Global};
 
 /// The number of each class, its place in the program's list, by its name.
@@ -23,7 +23,7 @@ pub(crate) struct ClassNumbers {
 impl ClassNumbers {
     /// The numbers of the classes, whose names must differ. The later of two classes with one name is refused.
     #[tactic(auto, using(crate::proofs::Numbers::numbering))]
-    pub(crate) fn new(alloc: Global, classes: &[Class]) -> Result<ClassNumbers, FrontFault>
+    pub(crate) fn new(alloc: Global, classes: &[Class]) -> Result<ClassNumbers, Rejection>
         ensures numbers { IfOk result (HasNumbers classes.now) }
         ensures differ { OnOk result (DifferInName classes.now) }
         ensures refused { (refusal : Refusal) → result ≡ Err (Refused refusal) → RefusesRepeated classes.now refusal }
@@ -65,7 +65,7 @@ pub(crate) struct ParamNames {
 }
 
 impl ParamNames {
-    pub(crate) fn new(alloc: Global, params: &[Param]) -> Result<ParamNames, AllocError>
+    pub(crate) fn new(alloc: Global, params: &[TypeParam]) -> Result<ParamNames, AllocError>
         ensures { IfOk result (HasParams params.now) }
     {
         let mut names = IndexSet::new(alloc);

@@ -3,10 +3,10 @@
 
 ghost use Rattle.std.specs.Prelude.{◌≡◌, ◌≤◌, Err, IfOk, MatchOption, OnOk, count_by};
 ghost use Rattle.sa_graph.specs.Paths.{NoneBefore, node_count};
-ghost use Rattle.sa_tree.specs.declared.refusal.FrontFault.TheVariants.{Refused};
-ghost use Rattle.sa_tree.specs.declared.refusal.Refusal.{Refusal};
-ghost use Rattle.sa_tree.specs.declared.rule.Rule.TheVariants.{ClassNotUsable};
-ghost use Rattle.sa_tree.specs.Types.{bare};
+ghost use Rattle.sa_ast.specs.declared.refusal.Rejection.TheVariants.{Refused};
+ghost use Rattle.sa_ast.specs.declared.refusal.Refusal.{Refusal};
+ghost use Rattle.sa_ast.specs.declared.rule.Rule.TheVariants.{ClassNotUsable};
+ghost use Rattle.sa_ast.specs.Types.{bare};
 ghost use Rattle.sa_include_names.specs.Includes.{AreArrays, IsSecond, brings_array, number_named};
 ghost use Rattle.sa_include_names.specs.Refusals.{AreIncludesRight, RefusesNames};
 ghost use Rattle.sa_include_names.specs.Tables.{CycleAt, HasNumbers, IsNamed, MisusedAt, NoneMisused, number_in};
@@ -14,8 +14,8 @@ ghost use Rattle.sa_include_names.specs.Tables.{CycleAt, HasNumbers, IsNamed, Mi
 use crate::graph::{array_parts, include_graph, is_marked};
 use crate::header::first_misused;
 use crate::names::ClassNumbers;
+use sa_ast::{Class, Include, Pos, Rejection, Rule, Ty};
 use sa_graph::Graph;
-use sa_tree::{Class, FrontFault, Include, Pos, Rule, Ty};
 use std::alloc::Global;
 
 /// Which classes of a program include which. A class has the number of its place in the program's list.
@@ -37,7 +37,7 @@ impl Includes {
     /// E15 at the name of the first class, in text order, that includes itself, by itself or by others. `NoMemory` where
     /// memory runs out.
     #[tactic(auto, using(crate::proofs::Verdicts::verdicts))]
-    pub fn new(alloc: Global, classes: &[Class]) -> Result<Includes, FrontFault>
+    pub fn new(alloc: Global, classes: &[Class]) -> Result<Includes, Rejection>
         ensures numbers { IfOk result (λ includes. HasNumbers classes.now includes.numbers) }
         ensures arrays { IfOk result (λ includes. AreArrays classes.now includes.arrays.items) }
         ensures right { OnOk result (AreIncludesRight classes.now) }
@@ -61,7 +61,7 @@ impl Includes {
     }
 
     /// The class that the type of an include clause names.
-    #[tactic(auto, using(sa_tree::proofs::BareTypes::bares))]
+    #[tactic(auto, using(sa_ast::proofs::BareTypes::bares))]
     pub fn included(&self, ty: &Ty) -> Option<u32>
         ensures { result ≡ number_named (number_in self.now.numbers) (bare ty.now) }
     {
@@ -114,7 +114,7 @@ fn names_stand(
     classes: &[Class],
     numbers: &ClassNumbers,
     arrays: &[bool],
-) -> Result<(), FrontFault>
+) -> Result<(), Rejection>
     requires { HasNumbers classes.now numbers.now }
     ensures none { OnOk result (NoneMisused classes.now arrays.now) }
     ensures misused { (refusal : Refusal) → result ≡ Err (Refused refusal) → MisusedAt classes.now arrays.now refusal }
@@ -126,7 +126,7 @@ fn names_stand(
 }
 
 /// The refusal of a name that may not stand at this position.
-fn misused_at(pos: Pos) -> FrontFault
+fn misused_at(pos: Pos) -> Rejection
     ensures { (refusal : Refusal) → result ≡ Refused refusal → refusal ≡ record { rule = ClassNotUsable; pos = pos } }
 {
     Rule::ClassNotUsable.at(pos).into()
@@ -138,7 +138,7 @@ fn misused_at(pos: Pos) -> FrontFault
 ///
 /// E15 at the name of the first class in text order that includes itself, by itself or by others.
 #[tactic(auto, using(crate::proofs::Verdicts::first_named))]
-fn include_order(alloc: Global, classes: &[Class], graph: &Graph) -> Result<Vec<u32>, FrontFault>
+fn include_order(alloc: Global, classes: &[Class], graph: &Graph) -> Result<Vec<u32>, Rejection>
     ensures none { OnOk result (NoneBefore graph.now (node_count graph.now)) }
     ensures cycle { (refusal : Refusal) → result ≡ Err (Refused refusal) → CycleAt classes.now graph.now refusal }
 {
@@ -150,11 +150,11 @@ fn include_order(alloc: Global, classes: &[Class], graph: &Graph) -> Result<Vec<
 }
 
 /// The refusal at the name of a class that lies on a cycle.
-fn cycle_at(classes: &[Class], number: usize) -> FrontFault
+fn cycle_at(classes: &[Class], number: usize) -> Rejection
     ensures { (refusal : Refusal) → result ≡ Refused refusal → IsNamed classes.now number refusal }
 {
     match classes.get(number) {
         Some(class) => Rule::Cycle.at(class.name.pos).into(),
-        None => FrontFault::NoMemory,
+        None => Rejection::NoMemory,
     }
 }

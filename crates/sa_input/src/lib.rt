@@ -2,9 +2,9 @@
 #![tactic(auto)]
 
 ghost use Rattle.std.specs.Prelude.{◌≡◌, ◌<◌, ◌≤◌, length, None, IfOk, IsErrOf};
-ghost use Rattle.sa_outside.specs.Faults.{Rose};
+ghost use Rattle.host_io.specs.Faults.{Rose};
 
-use sa_outside::{Outage, ReadFiles, Source, Take, WriteFiles};
+use host_io::{Outage, ReadFiles, Source, Take, WriteFiles};
 use std::alloc::Global;
 use std::marker::Model;
 

@@ -5,52 +5,52 @@
 use crate::adapter_iter::adapter_iter;
 use crate::arguments::{Arguments, pass_all, widen_back, widened_value};
 use crate::passing::widened_result;
-use crate::signatures::{Implemented, formals_of};
-use sa_core::Target;
-use sa_flat::{CallPlan, Fail, FlatBody, FlatExit, FlatStep};
-use sa_lower_draft::{BodyHead, Inside, OpenBody};
+use crate::signatures::{AdapterCall, formals_of};
+use sa_ast::{NoMemory, held};
+use sa_cfg::{CallOperation, CfgBody, CfgOperation, FaultExit, Terminator};
+use sa_cfg_builder::{BodyBuilder, BodyHeader, LoweringContext};
 use sa_lower_expr::callee_of;
-use sa_tree::{NoMemory, held};
-use sa_well::{Param, is_target_iter};
+use sa_typed::Target;
+use sa_typing::{ParamType, is_target_iter};
 use sqlite_items::Items;
 use std::alloc::Global;
 
 /// The adapter of an implementation of a signature.
-pub(crate) fn adapter(alloc: Global, implemented: Implemented<'_>) -> Result<FlatBody, NoMemory> {
+pub(crate) fn adapter(alloc: Global, implemented: AdapterCall<'_>) -> Result<CfgBody, NoMemory> {
     let iter = iter_number(implemented);
     let head = head(alloc, iter, implemented.params())?;
-    let mut body = OpenBody::begin(alloc, head)?;
+    let mut body = BodyBuilder::begin(alloc, head)?;
     if let Some(iter) = iter {
         return adapter_iter(alloc, implemented, iter, &mut body);
     }
     let value = call(alloc, implemented, &mut body)?;
-    body.finish(alloc, FlatExit::Return { value })
+    body.finish(alloc, Terminator::Return { value })
 }
 
 /// What is known of a body before its blocks, where an iter with this number or something else implements the signature.
-fn head(alloc: Global, iter: Option<u32>, params: &[Param]) -> Result<BodyHead, NoMemory> {
+fn head(alloc: Global, iter: Option<u32>, params: &[ParamType]) -> Result<BodyHeader, NoMemory> {
     let formals = formals_of(alloc, params)?;
     let own = held(u32::try_from(formals.len()).ok())?;
-    Ok(BodyHead {
+    Ok(BodyHeader {
         feature: None,
         iter: iter.is_some(),
         formals,
-        own,
+        variable_count: own,
         sites: 0,
     })
 }
 
 /// What the steps of a body tell that has no position of its own.
-pub(crate) fn no_position() -> Fail {
-    Fail {
+pub(crate) fn no_position() -> FaultExit {
+    FaultExit {
         place: 0,
         line: 0,
-        raised: Inside::of_body().raised,
+        raised: LoweringContext::of_body().raised,
     }
 }
 
 /// The iter that implements the signature, if it is one.
-fn iter_number(implemented: Implemented<'_>) -> Option<u32> {
+fn iter_number(implemented: AdapterCall<'_>) -> Option<u32> {
     let target = implemented.implementation.target;
     match target {
         Target::Feature(number) if is_target_iter(implemented.view, target) => Some(number),
@@ -61,14 +61,14 @@ fn iter_number(implemented: Implemented<'_>) -> Option<u32> {
 /// The call with all that is widened before and behind it, and the variable that holds the result of the signature.
 fn call(
     alloc: Global,
-    implemented: Implemented<'_>,
-    body: &mut OpenBody,
+    implemented: AdapterCall<'_>,
+    body: &mut BodyBuilder,
 ) -> Result<Option<u32>, NoMemory> {
     let recv = receiver(implemented, body)?;
     let Arguments { args, backs } = pass_all(alloc, implemented, body)?;
     let value = value_of(implemented, body)?;
-    body.step(FlatStep::Call {
-        plan: CallPlan {
+    body.step(CfgOperation::Call {
+        plan: CallOperation {
             callee: callee_of(implemented.implementation.target),
             class: implemented.implementation.ty,
             recv,
@@ -83,22 +83,25 @@ fn call(
 }
 
 /// The variable that holds the receiver as its own class has it.
-pub(crate) fn receiver(implemented: Implemented<'_>, body: &mut OpenBody) -> Result<u32, NoMemory> {
+pub(crate) fn receiver(
+    implemented: AdapterCall<'_>,
+    body: &mut BodyBuilder,
+) -> Result<u32, NoMemory> {
     let me = body.temporary()?;
-    body.step(FlatStep::Me { to: me })?;
+    body.step(CfgOperation::SelfRef { to: me })?;
     let ty = implemented.implementation.ty;
     if !implemented.view.is_immutable(ty) {
         return Ok(me);
     }
     let to = body.temporary()?;
-    body.step(FlatStep::Unwrap { to, from: me, ty })?;
+    body.step(CfgOperation::Unbox { to, from: me, ty })?;
     Ok(to)
 }
 
 /// A variable for what the implementation gives, if it gives anything.
 pub(crate) fn value_of(
-    implemented: Implemented<'_>,
-    body: &mut OpenBody,
+    implemented: AdapterCall<'_>,
+    body: &mut BodyBuilder,
 ) -> Result<Option<u32>, NoMemory> {
     match implemented.result() {
         Some(_) => Ok(Some(body.temporary()?)),

@@ -4,19 +4,19 @@
 
 use crate::adapter::{receiver, value_of};
 use crate::arguments::{Arguments, pass, widen_back, widened, widened_value};
-use crate::passing::{Passing, passing_of, widened_result};
-use crate::signatures::Implemented;
-use sa_flat::{FlatArg, FlatBody, FlatExit, FlatStep};
-use sa_lower_draft::OpenBody;
-use sa_tree::{Mode, NoMemory, held};
-use sa_well::Param;
+use crate::passing::{ArgConversion, passing_of, widened_result};
+use crate::signatures::AdapterCall;
+use sa_ast::{Mode, NoMemory, held};
+use sa_cfg::{CallOperand, CfgBody, CfgOperation, Terminator};
+use sa_cfg_builder::BodyBuilder;
+use sa_typing::ParamType;
 use sqlite_items::Items;
 use std::alloc::Global;
 
 /// What is there of a start: the variable that holds the receiver as its own class has it, and for each argument the variable
 /// that stands for it, widened where it is a `once` one.
 #[derive(Drop)]
-struct Begun {
+struct StartedAdapter {
     recv: u32,
     vars: Items<u32>,
 }
@@ -24,16 +24,16 @@ struct Begun {
 /// The adapter of an implementation by the iter with this number, a body that has begun.
 pub(crate) fn adapter_iter(
     alloc: Global,
-    implemented: Implemented<'_>,
+    implemented: AdapterCall<'_>,
     iter: u32,
-    body: &mut OpenBody,
-) -> Result<FlatBody, NoMemory> {
+    body: &mut BodyBuilder,
+) -> Result<CfgBody, NoMemory> {
     let begun = begin(alloc, implemented, body)?;
     let passed = pass_all(alloc, implemented, &begun, body)?;
     let Arguments { args, backs } = passed;
     let value = value_of(implemented, body)?;
     let quit = body.temporary()?;
-    body.step(FlatStep::Enter {
+    body.step(CfgOperation::Enter {
         body: iter,
         recv: begun.recv,
         args,
@@ -43,7 +43,7 @@ pub(crate) fn adapter_iter(
     end_or_go_on(alloc, body, quit)?;
     let value = widened_value(value, widened_result(implemented), body)?;
     widen_back(backs.as_slice(), body)?;
-    let exit = FlatExit::Suspend {
+    let exit = Terminator::Suspend {
         value,
         resume: None,
     };
@@ -53,14 +53,14 @@ pub(crate) fn adapter_iter(
 /// Takes what a start hands over. The block in which a start and a resumption go on is open afterwards.
 fn begin(
     alloc: Global,
-    implemented: Implemented<'_>,
-    body: &mut OpenBody,
-) -> Result<Begun, NoMemory> {
+    implemented: AdapterCall<'_>,
+    body: &mut BodyBuilder,
+) -> Result<StartedAdapter, NoMemory> {
     let test = body.temporary()?;
-    body.step(FlatStep::HasFrame { to: test })?;
+    body.step(CfgOperation::HasFrame { to: test })?;
     let fresh = body.block(alloc)?;
     let joined = body.block(alloc)?;
-    let branch = FlatExit::Branch {
+    let branch = Terminator::Branch {
         test,
         yes: joined,
         no: fresh,
@@ -68,15 +68,15 @@ fn begin(
     body.end(alloc, branch, fresh)?;
     let recv = receiver(implemented, body)?;
     let vars = once_arguments(alloc, implemented, body)?;
-    body.end(alloc, FlatExit::Jump(joined), joined)?;
-    Ok(Begun { recv, vars })
+    body.end(alloc, Terminator::Jump(joined), joined)?;
+    Ok(StartedAdapter { recv, vars })
 }
 
 /// The variables of the arguments, those of the `once` ones as the implementation takes them.
 fn once_arguments(
     alloc: Global,
-    implemented: Implemented<'_>,
-    body: &mut OpenBody,
+    implemented: AdapterCall<'_>,
+    body: &mut BodyBuilder,
 ) -> Result<Items<u32>, NoMemory> {
     let mut vars = Items::new(alloc);
     for (place, param) in implemented.params().iter().enumerate() {
@@ -87,17 +87,17 @@ fn once_arguments(
 
 /// The variable of the argument at this place.
 fn once_argument(
-    implemented: Implemented<'_>,
+    implemented: AdapterCall<'_>,
     place: usize,
-    param: Param,
-    body: &mut OpenBody,
+    param: ParamType,
+    body: &mut BodyBuilder,
 ) -> Result<u32, NoMemory> {
     let var = held(u32::try_from(place).ok())?;
     if param.mode != Mode::Once {
         return Ok(var);
     }
     match passing_of(implemented, place, param) {
-        Passing::WidenedIn(ty) => widened(var, ty, body),
+        ArgConversion::WidenedIn(ty) => widened(var, ty, body),
         _ => Ok(var),
     }
 }
@@ -105,9 +105,9 @@ fn once_argument(
 /// The arguments as the iter takes them. Those that aren't `once` are taken anew.
 fn pass_all(
     alloc: Global,
-    implemented: Implemented<'_>,
-    begun: &Begun,
-    body: &mut OpenBody,
+    implemented: AdapterCall<'_>,
+    begun: &StartedAdapter,
+    body: &mut BodyBuilder,
 ) -> Result<Arguments, NoMemory> {
     let mut passed = Arguments::none(alloc);
     let vars = begun.vars.as_slice();
@@ -123,7 +123,7 @@ fn pass_all(
 
 /// One more argument, which was taken at the start.
 fn pass_begun(var: u32, passed: &mut Arguments) -> Result<(), NoMemory> {
-    passed.args.push(FlatArg {
+    passed.args.push(CallOperand {
         mode: Mode::Once,
         var: Some(var),
     })?;
@@ -131,14 +131,14 @@ fn pass_begun(var: u32, passed: &mut Arguments) -> Result<(), NoMemory> {
 }
 
 /// Ends the instance where the iter has ended. The block where it has yielded is open afterwards.
-fn end_or_go_on(alloc: Global, body: &mut OpenBody, quit: u32) -> Result<(), NoMemory> {
+fn end_or_go_on(alloc: Global, body: &mut BodyBuilder, quit: u32) -> Result<(), NoMemory> {
     let ended = body.block(alloc)?;
     let yielded = body.block(alloc)?;
-    let branch = FlatExit::Branch {
+    let branch = Terminator::Branch {
         test: quit,
         yes: ended,
         no: yielded,
     };
     body.end(alloc, branch, ended)?;
-    body.end(alloc, FlatExit::Quit, yielded)
+    body.end(alloc, Terminator::Quit, yielded)
 }

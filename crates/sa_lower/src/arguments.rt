@@ -2,18 +2,18 @@
 //! behind the call.
 
 use crate::adapter::no_position;
-use crate::passing::{Passing, passing_of};
-use crate::signatures::Implemented;
-use sa_flat::{FlatArg, FlatStep};
-use sa_lower_draft::OpenBody;
-use sa_tree::{NoMemory, held};
-use sa_well::Param;
+use crate::passing::{ArgConversion, passing_of};
+use crate::signatures::AdapterCall;
+use sa_ast::{NoMemory, held};
+use sa_cfg::{CallOperand, CfgOperation};
+use sa_cfg_builder::BodyBuilder;
+use sa_typing::ParamType;
 use sqlite_items::Items;
 use std::alloc::Global;
 
 /// An argument that is widened behind the call: the variable that gets it, and the one that holds it with its class.
 #[derive(Clone, Copy, Debug, PartialEq, Eq)]
-pub(crate) struct Back {
+pub(crate) struct OutBoxing {
     to: u32,
     from: u32,
     ty: u32,
@@ -22,8 +22,8 @@ pub(crate) struct Back {
 /// The arguments as they are passed, and those that are widened behind the call.
 #[derive(Drop)]
 pub(crate) struct Arguments {
-    pub args: Items<FlatArg>,
-    pub backs: Items<Back>,
+    pub args: Items<CallOperand>,
+    pub backs: Items<OutBoxing>,
 }
 
 impl Arguments {
@@ -39,8 +39,8 @@ impl Arguments {
 /// The arguments as the implementation takes them.
 pub(crate) fn pass_all(
     alloc: Global,
-    implemented: Implemented<'_>,
-    body: &mut OpenBody,
+    implemented: AdapterCall<'_>,
+    body: &mut BodyBuilder,
 ) -> Result<Arguments, NoMemory> {
     let mut passed = Arguments::none(alloc);
     for (place, param) in implemented.params().iter().enumerate() {
@@ -51,16 +51,16 @@ pub(crate) fn pass_all(
 
 /// One more argument, the one at this place.
 pub(crate) fn pass(
-    implemented: Implemented<'_>,
+    implemented: AdapterCall<'_>,
     place: usize,
-    param: Param,
-    body: &mut OpenBody,
+    param: ParamType,
+    body: &mut BodyBuilder,
     passed: &mut Arguments,
 ) -> Result<(), NoMemory> {
     let how = passing_of(implemented, place, param);
     let to = held(u32::try_from(place).ok())?;
     let var = variable(how, to, body, &mut passed.backs)?;
-    passed.args.push(FlatArg {
+    passed.args.push(CallOperand {
         mode: param.mode,
         var: Some(var),
     })?;
@@ -69,26 +69,26 @@ pub(crate) fn pass(
 
 /// The variable that stands for the argument `to` in the call.
 fn variable(
-    how: Passing,
+    how: ArgConversion,
     to: u32,
-    body: &mut OpenBody,
-    backs: &mut Items<Back>,
+    body: &mut BodyBuilder,
+    backs: &mut Items<OutBoxing>,
 ) -> Result<u32, NoMemory> {
     match how {
-        Passing::Plain => Ok(to),
-        Passing::WidenedIn(ty) => widened(to, ty, body),
-        Passing::WidenedOut(ty) => {
+        ArgConversion::Plain => Ok(to),
+        ArgConversion::WidenedIn(ty) => widened(to, ty, body),
+        ArgConversion::WidenedOut(ty) => {
             let from = body.temporary()?;
-            backs.push(Back { to, from, ty })?;
+            backs.push(OutBoxing { to, from, ty })?;
             Ok(from)
         }
     }
 }
 
 /// The variable that holds the value of an immutable class as it stands at an abstract type.
-pub(crate) fn widened(from: u32, ty: u32, body: &mut OpenBody) -> Result<u32, NoMemory> {
+pub(crate) fn widened(from: u32, ty: u32, body: &mut BodyBuilder) -> Result<u32, NoMemory> {
     let to = body.temporary()?;
-    body.step(FlatStep::Widen {
+    body.step(CfgOperation::Box {
         to,
         from,
         ty,
@@ -101,7 +101,7 @@ pub(crate) fn widened(from: u32, ty: u32, body: &mut OpenBody) -> Result<u32, No
 pub(crate) fn widened_value(
     value: Option<u32>,
     ty: Option<u32>,
-    body: &mut OpenBody,
+    body: &mut BodyBuilder,
 ) -> Result<Option<u32>, NoMemory> {
     let (Some(from), Some(ty)) = (value, ty) else {
         return Ok(value);
@@ -110,9 +110,9 @@ pub(crate) fn widened_value(
 }
 
 /// Widens what is copied back, from left to right.
-pub(crate) fn widen_back(backs: &[Back], body: &mut OpenBody) -> Result<(), NoMemory> {
+pub(crate) fn widen_back(backs: &[OutBoxing], body: &mut BodyBuilder) -> Result<(), NoMemory> {
     for back in backs {
-        body.step(FlatStep::Widen {
+        body.step(CfgOperation::Box {
             to: back.to,
             from: back.from,
             ty: back.ty,

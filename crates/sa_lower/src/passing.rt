@@ -1,14 +1,14 @@
 //! What is widened between a signature and an implementation of it: an immutable value that goes in where the implementation
 //! has an abstract type, and one that comes out where the signature has one.
 
-use crate::signatures::Implemented;
+use crate::signatures::AdapterCall;
+use sa_ast::Mode;
 use sa_lower_expr::takes_abstract;
-use sa_tree::Mode;
-use sa_well::{Param, View};
+use sa_typing::{ParamType, TypingView};
 
 /// What is done with an argument between a signature and an implementation.
 #[derive(Clone, Copy, Debug, PartialEq, Eq)]
-pub(crate) enum Passing {
+pub(crate) enum ArgConversion {
     /// It is passed as it is.
     Plain,
     /// It is a value of this immutable class and is widened before the call.
@@ -18,38 +18,42 @@ pub(crate) enum Passing {
 }
 
 /// What is done with the argument at a place, where the signature has this parameter.
-pub(crate) fn passing_of(implemented: Implemented<'_>, place: usize, param: Param) -> Passing {
+pub(crate) fn passing_of(
+    implemented: AdapterCall<'_>,
+    place: usize,
+    param: ParamType,
+) -> ArgConversion {
     match param.mode {
         Mode::In => passing_in(implemented, place, param.ty),
         Mode::Once => passing_in(implemented, place, param.ty),
         Mode::Out => passing_out(implemented, place, param.ty),
-        Mode::Inout => Passing::Plain,
+        Mode::Inout => ArgConversion::Plain,
     }
 }
 
 /// An argument that goes in.
-fn passing_in(implemented: Implemented<'_>, place: usize, ty: u32) -> Passing {
-    let Implemented {
+fn passing_in(implemented: AdapterCall<'_>, place: usize, ty: u32) -> ArgConversion {
+    let AdapterCall {
         view,
         implementation,
         ..
     } = implemented;
     if view.is_immutable(ty) && takes_abstract(view, implementation, place) {
-        return Passing::WidenedIn(ty);
+        return ArgConversion::WidenedIn(ty);
     }
-    Passing::Plain
+    ArgConversion::Plain
 }
 
 /// An argument that comes out.
-fn passing_out(implemented: Implemented<'_>, place: usize, ty: u32) -> Passing {
+fn passing_out(implemented: AdapterCall<'_>, place: usize, ty: u32) -> ArgConversion {
     match implemented.parameter(place) {
-        Some(own) if is_widened(implemented.view, own.ty, ty) => Passing::WidenedOut(own.ty),
-        _ => Passing::Plain,
+        Some(own) if is_widened(implemented.view, own.ty, ty) => ArgConversion::WidenedOut(own.ty),
+        _ => ArgConversion::Plain,
     }
 }
 
 /// The immutable class of which an implementation gives a value that has to be widened to the result of the signature.
-pub(crate) fn widened_result(implemented: Implemented<'_>) -> Option<u32> {
+pub(crate) fn widened_result(implemented: AdapterCall<'_>) -> Option<u32> {
     match (implemented.result(), implemented.shape.result) {
         (Some(own), Some(ty)) if is_widened(implemented.view, own, ty) => Some(own),
         _ => None,
@@ -57,6 +61,6 @@ pub(crate) fn widened_result(implemented: Implemented<'_>) -> Option<u32> {
 }
 
 /// Whether a value of the first type is widened to be one of the other.
-fn is_widened(view: &View<'_>, own: u32, ty: u32) -> bool {
+fn is_widened(view: &TypingView<'_>, own: u32, ty: u32) -> bool {
     view.is_abstract(ty) && view.is_immutable(own)
 }

@@ -2,28 +2,28 @@
 //! void value of its class as `self`, and calls `main`.
 
 ghost use Rattle.std.specs.Prelude.{◌<◌, All, length};
-ghost use Rattle.sa_lower.specs.Parts.{StartsWell};
-ghost use Rattle.sa_well.specs.Rows.{rows};
+ghost use Rattle.sa_lower.specs.TypedParts.{HasWellTypedInitialiser};
+ghost use Rattle.sa_typing.specs.Rows.{rows};
 
 use crate::adapter::no_position;
-use sa_core::{FeatureCore, SharedCore};
-use sa_flat::{CallPlan, Callee, FlatBody, FlatConst, FlatExit, FlatStep};
-use sa_lower_draft::{BodyHead, Draft, Inside, OpenBody};
-use sa_lower_expr::{Owner, place_expr};
-use sa_tree::{NoMemory, held};
-use sa_well::{View, scope_of_start};
+use sa_ast::{NoMemory, held};
+use sa_cfg::{CallOperation, CallTarget, CfgBody, CfgOperation, Constant, Terminator};
+use sa_cfg_builder::{BodyBuilder, BodyHeader, LoweringContext, ProgramBuilder};
+use sa_lower_expr::{Owner, lower_expr};
+use sa_typed::{TypedFeature, TypedShared};
+use sa_typing::{TypingView, env_of_initialiser};
 use sqlite_items::Items;
 use std::alloc::Global;
 
 /// The body that a run begins with, where the feature with this number is `main`.
 pub(crate) fn run_body(
     alloc: Global,
-    view: &View<'_>,
+    view: &TypingView<'_>,
     main: u32,
-    draft: &mut Draft,
-) -> Result<FlatBody, NoMemory>
+    draft: &mut ProgramBuilder,
+) -> Result<CfgBody, NoMemory>
     requires main { main < length view.now.features.now }
-    requires starts { All (StartsWell (rows view.now)) view.now.shareds.now }
+    requires starts { All (HasWellTypedInitialiser (rows view.now)) view.now.shareds.now }
 {
     draft.begin(alloc, head(alloc))?;
     for (number, shared) in view.shareds.iter().enumerate() {
@@ -32,16 +32,16 @@ pub(crate) fn run_body(
     }
     let feature = &view.features[main as usize];
     let value = call_main(alloc, main, feature, &mut draft.body)?;
-    draft.body.finish(alloc, FlatExit::Return { value })
+    draft.body.finish(alloc, Terminator::Return { value })
 }
 
 /// What is known of the body before its blocks.
-fn head(alloc: Global) -> BodyHead {
-    BodyHead {
+fn head(alloc: Global) -> BodyHeader {
+    BodyHeader {
         feature: None,
         iter: false,
         formals: Items::new(alloc),
-        own: 0,
+        variable_count: 0,
         sites: 0,
     }
 }
@@ -49,22 +49,22 @@ fn head(alloc: Global) -> BodyHead {
 /// A shared gets the value of its initialiser, where it has one.
 fn initialise(
     alloc: Global,
-    view: &View<'_>,
+    view: &TypingView<'_>,
     number: u32,
-    shared: &SharedCore,
-    draft: &mut Draft,
+    shared: &TypedShared,
+    draft: &mut ProgramBuilder,
 ) -> Result<(), NoMemory>
-    requires { StartsWell (rows view.now) shared.now }
+    requires { HasWellTypedInitialiser (rows view.now) shared.now }
 {
     let Some(start) = &shared.start else {
         return Ok(());
     };
-    draft.body.step(FlatStep::Turn)?;
-    let scope = scope_of_start(view, shared.class);
-    let inside = Inside::of_body();
-    let value = place_expr(alloc, &scope, Owner::Initialiser, &inside, draft, start)?;
+    draft.body.step(CfgOperation::Turn)?;
+    let scope = env_of_initialiser(view, shared.class);
+    let inside = LoweringContext::of_body();
+    let value = lower_expr(alloc, &scope, Owner::Initialiser, &inside, draft, start)?;
     let Some(from) = value else { unreachable!() };
-    draft.body.step(FlatStep::InitShared {
+    draft.body.step(CfgOperation::InitShared {
         shared: number,
         from,
     })
@@ -74,22 +74,22 @@ fn initialise(
 fn call_main(
     alloc: Global,
     number: u32,
-    main: &FeatureCore,
-    body: &mut OpenBody,
+    main: &TypedFeature,
+    body: &mut BodyBuilder,
 ) -> Result<Option<u32>, NoMemory> {
-    body.statement(&Inside::of_body());
+    body.statement(&LoweringContext::of_body());
     let recv = body.temporary()?;
-    body.step(FlatStep::Const {
+    body.step(CfgOperation::Const {
         to: recv,
-        value: FlatConst::Void(main.class),
+        value: Constant::Void(main.class),
     })?;
     let value = match main.result {
         Some(_) => Some(body.temporary()?),
         None => None,
     };
-    body.step(FlatStep::Call {
-        plan: CallPlan {
-            callee: Callee::Body(number),
+    body.step(CfgOperation::Call {
+        plan: CallOperation {
+            callee: CallTarget::Body(number),
             class: main.class,
             recv,
             args: Items::new(alloc),

@@ -3,27 +3,27 @@
 //! which one it will reach, can make the checks of a call for all or for none.
 
 ghost use Rattle.std.specs.Prelude.{All};
-ghost use Rattle.sa_lower.specs.Parts.{HasShape};
+ghost use Rattle.sa_lower.specs.TypedParts.{HasCallType};
 
 use crate::adapter::adapter;
-use crate::passing::{Passing, passing_of, widened_result};
-use crate::signatures::Implemented;
-use sa_core::{ImplCore, Target};
-use sa_flat::FlatBody;
-use sa_tree::{NoMemory, held};
-use sa_well::{Shape, View};
+use crate::passing::{ArgConversion, passing_of, widened_result};
+use crate::signatures::AdapterCall;
+use sa_ast::{NoMemory, held};
+use sa_cfg::CfgBody;
+use sa_typed::{Target, TypedImplementation};
+use sa_typing::{CallType, TypingView};
 use sqlite_items::Items;
 use std::alloc::Global;
 
 /// The number of the body of each implementation, in the order of the signatures and of their implementations. The bodies
 /// that are made for them stand behind the others.
-#[tactic(auto, unfolding(crate::specs::Parts::HasShape))]
+#[tactic(auto, unfolding(crate::specs::TypedParts::HasCallType))]
 pub(crate) fn targets(
     alloc: Global,
-    view: &View<'_>,
-    bodies: &mut Items<FlatBody>,
+    view: &TypingView<'_>,
+    bodies: &mut Items<CfgBody>,
 ) -> Result<Items<u32>, NoMemory>
-    requires { All HasShape view.now.shapes.now }
+    requires { All HasCallType view.now.shapes.now }
 {
     let mut targets = Items::new(alloc);
     for (signature, shape) in view.signatures.iter().zip(view.shapes) {
@@ -43,10 +43,10 @@ pub(crate) fn targets(
 /// Adds those of the implementations of a signature: their features, or an adapter for each.
 fn add_targets(
     alloc: Global,
-    view: &View<'_>,
-    shape: &Shape,
-    implementations: &[ImplCore],
-    bodies: &mut Items<FlatBody>,
+    view: &TypingView<'_>,
+    shape: &CallType,
+    implementations: &[TypedImplementation],
+    bodies: &mut Items<CfgBody>,
     targets: &mut Items<u32>,
 ) -> Result<(), NoMemory> {
     let Some(features) = plain_features(alloc, view, shape, implementations)? else {
@@ -59,15 +59,15 @@ fn add_targets(
 /// Adds an adapter for each implementation of a signature.
 fn add_adapters(
     alloc: Global,
-    view: &View<'_>,
-    shape: &Shape,
-    implementations: &[ImplCore],
-    bodies: &mut Items<FlatBody>,
+    view: &TypingView<'_>,
+    shape: &CallType,
+    implementations: &[TypedImplementation],
+    bodies: &mut Items<CfgBody>,
     targets: &mut Items<u32>,
 ) -> Result<(), NoMemory> {
     for implementation in implementations {
         let number = held(u32::try_from(bodies.len()).ok())?;
-        let implemented = Implemented {
+        let implemented = AdapterCall {
             view,
             implementation,
             shape,
@@ -81,13 +81,13 @@ fn add_adapters(
 /// The features that implement a signature, where no implementation needs an adapter.
 fn plain_features<'a>(
     alloc: Global,
-    view: &'a View<'a>,
-    shape: &'a Shape,
-    implementations: &'a [ImplCore],
+    view: &'a TypingView<'a>,
+    shape: &'a CallType,
+    implementations: &'a [TypedImplementation],
 ) -> Result<Option<Items<u32>>, NoMemory> {
     let mut features = Items::new(alloc);
     for implementation in implementations {
-        let implemented = Implemented {
+        let implemented = AdapterCall {
             view,
             implementation,
             shape,
@@ -102,7 +102,7 @@ fn plain_features<'a>(
 
 /// The feature that implements a signature, where it is called with the receiver, the arguments and the result that the signature
 /// has.
-fn plain_feature(implemented: Implemented<'_>) -> Option<u32> {
+fn plain_feature(implemented: AdapterCall<'_>) -> Option<u32> {
     let Target::Feature(number) = implemented.implementation.target else {
         return None;
     };
@@ -116,9 +116,9 @@ fn plain_feature(implemented: Implemented<'_>) -> Option<u32> {
     Some(number)
 }
 
-fn is_any_argument_widened(implemented: Implemented<'_>) -> bool {
+fn is_any_argument_widened(implemented: AdapterCall<'_>) -> bool {
     for (place, param) in implemented.params().iter().enumerate() {
-        if passing_of(implemented, place, *param) != Passing::Plain {
+        if passing_of(implemented, place, *param) != ArgConversion::Plain {
             return true;
         }
     }

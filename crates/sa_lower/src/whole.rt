@@ -1,18 +1,18 @@
 //! A whole typed program as a flat one.
 
 ghost use Rattle.std.specs.Prelude.{◌≡◌, IfOk, OnOk};
-ghost use Rattle.sa_well.specs.Rows.{rows};
-ghost use Rattle.sa_well.specs.Well.{IsWell, rows_of};
+ghost use Rattle.sa_typing.specs.Rows.{rows};
+ghost use Rattle.sa_typing.specs.WellTyped.{IsWellTyped, rows_of};
 
 use crate::features::feature_bodies;
 use crate::lines::line_numbers;
 use crate::run::run_body;
 use crate::targets::targets;
-use sa_core::{Core, SharedCore, TypeInfo};
-use sa_flat::{FlatProgram, Layout};
-use sa_lower_draft::{Draft, Tables};
-use sa_tree::{NoMemory, Pos};
-use sa_well::{Shapes, View};
+use sa_ast::{NoMemory, Pos};
+use sa_cfg::{CfgProgram, TypeLayout};
+use sa_cfg_builder::{ProgramBuilder, Tables};
+use sa_typed::{TypeDef, TypedProgram, TypedShared};
+use sa_typing::{CallTypes, TypingView};
 use sqlite_items::Items;
 use std::alloc::Global;
 
@@ -21,19 +21,23 @@ use std::alloc::Global;
 /// # Errors
 ///
 /// `NoMemory`, also where a position is in none of its texts.
-pub fn lower(alloc: Global, core: &Core, positions: Items<Pos>) -> Result<FlatProgram, NoMemory>
-    requires { IsWell core.now }
+pub fn lower(
+    alloc: Global,
+    core: &TypedProgram,
+    positions: Items<Pos>,
+) -> Result<CfgProgram, NoMemory>
+    requires { IsWellTyped core.now }
     ensures positions { IfOk result (λ flat. flat.positions ≡ positions) }
 {
     let mut program = empty(alloc, positions);
     add_tables(alloc, core, &mut program)?;
     let positions = program.positions.as_slice();
-    let lines = line_numbers(alloc, core.feeds.as_slice(), positions)?;
+    let lines = line_numbers(alloc, core.newlines.as_slice(), positions)?;
     let tables = Tables::new(alloc, positions, lines.as_slice())?;
-    let mut draft = Draft::new(alloc, tables);
-    let shapes = Shapes::of(alloc, core)?;
+    let mut draft = ProgramBuilder::new(alloc, tables);
+    let shapes = CallTypes::of(alloc, core)?;
     add_bodies(alloc, core, &shapes.view(core), &mut draft, &mut program)?;
-    let Draft { tables, .. } = draft;
+    let ProgramBuilder { tables, .. } = draft;
     let Tables { texts, binds, .. } = tables;
     program.texts = texts.in_order(alloc)?;
     program.binds = binds;
@@ -44,12 +48,12 @@ pub fn lower(alloc: Global, core: &Core, positions: Items<Pos>) -> Result<FlatPr
 #[tactic(auto, using(crate::proofs::Parts::parts))]
 fn add_bodies(
     alloc: Global,
-    core: &Core,
-    view: &View<'_>,
-    draft: &mut Draft,
-    program: &mut FlatProgram,
+    core: &TypedProgram,
+    view: &TypingView<'_>,
+    draft: &mut ProgramBuilder,
+    program: &mut CfgProgram,
 ) -> Result<(), NoMemory>
-    requires well { IsWell core.now }
+    requires well { IsWellTyped core.now }
     requires rows { rows view.now ≡ rows_of core.now }
     ensures positions { OnOk result (program.new.positions ≡ program.old.positions) }
 {
@@ -61,7 +65,7 @@ fn add_bodies(
 }
 
 /// Puts into a program what the typed one says of its types and shareds.
-fn add_tables(alloc: Global, core: &Core, program: &mut FlatProgram) -> Result<(), NoMemory>
+fn add_tables(alloc: Global, core: &TypedProgram, program: &mut CfgProgram) -> Result<(), NoMemory>
     ensures positions { OnOk result (program.new.positions ≡ program.old.positions) }
 {
     program.types = slots(alloc, core.types.as_slice())?;
@@ -71,10 +75,10 @@ fn add_tables(alloc: Global, core: &Core, program: &mut FlatProgram) -> Result<(
 }
 
 /// A program with these positions and nothing else.
-fn empty(alloc: Global, positions: Items<Pos>) -> FlatProgram
+fn empty(alloc: Global, positions: Items<Pos>) -> CfgProgram
     ensures { result.positions ≡ positions }
 {
-    FlatProgram {
+    CfgProgram {
         bodies: Items::new(alloc),
         texts: Items::new(alloc),
         positions,
@@ -87,7 +91,7 @@ fn empty(alloc: Global, positions: Items<Pos>) -> FlatProgram
 }
 
 /// The number of attributes of each type.
-fn slots(alloc: Global, types: &[TypeInfo]) -> Result<Items<u32>, NoMemory> {
+fn slots(alloc: Global, types: &[TypeDef]) -> Result<Items<u32>, NoMemory> {
     let mut slots = Items::new(alloc);
     for info in types {
         slots.push(info.slots)?;
@@ -96,10 +100,10 @@ fn slots(alloc: Global, types: &[TypeInfo]) -> Result<Items<u32>, NoMemory> {
 }
 
 /// The layout of each type.
-fn layouts(alloc: Global, types: &[TypeInfo]) -> Result<Items<Layout>, NoMemory> {
+fn layouts(alloc: Global, types: &[TypeDef]) -> Result<Items<TypeLayout>, NoMemory> {
     let mut layouts = Items::new(alloc);
     for info in types {
-        layouts.push(Layout {
+        layouts.push(TypeLayout {
             kind: info.kind,
             attrs: Items::from_slice(alloc, info.attrs.as_slice())?,
             array: info.array,
@@ -111,7 +115,7 @@ fn layouts(alloc: Global, types: &[TypeInfo]) -> Result<Items<Layout>, NoMemory>
 }
 
 /// The number of the type of each shared.
-fn shared_types(alloc: Global, shareds: &[SharedCore]) -> Result<Items<u32>, NoMemory> {
+fn shared_types(alloc: Global, shareds: &[TypedShared]) -> Result<Items<u32>, NoMemory> {
     let mut types = Items::new(alloc);
     for shared in shareds {
         types.push(shared.ty)?;

@@ -1,16 +1,16 @@
 //! `if`: its entries in order, each with its tests and its statements.
 
 ghost use Rattle.std.specs.Prelude.{All};
-ghost use Rattle.sa_lower_body.specs.Typed.{IsEntry, frame_of, place_at};
+ghost use Rattle.sa_lower_body.specs.TypedStatements.{IsEntry, env_of, stmt_context};
 ghost use Rattle.sa_lower_expr.specs.Typed.{HasValue};
 
-use crate::around::Around;
+use crate::context::StmtContext;
 use crate::stmts::stmts;
 use crate::value::value_of;
-use sa_core::{ExprCore, TestCore};
-use sa_flat::FlatExit;
-use sa_lower_draft::Draft;
-use sa_tree::NoMemory;
+use sa_ast::NoMemory;
+use sa_cfg::Terminator;
+use sa_cfg_builder::ProgramBuilder;
+use sa_typed::{TypedBranch, TypedExpr};
 use std::alloc::Global;
 
 /// The entries of an `if`. Each goes on in the block behind the `if` once its statements are done. That block is the answer; the
@@ -18,11 +18,11 @@ use std::alloc::Global;
 #[cycle(stmts)]
 pub(crate) fn if_entries(
     alloc: Global,
-    around: &Around<'_>,
-    draft: &mut Draft,
-    entries: &[TestCore],
+    around: &StmtContext<'_>,
+    draft: &mut ProgramBuilder,
+    entries: &[TypedBranch],
 ) -> Result<u32, NoMemory>
-    requires { All (IsEntry (frame_of around.now) (place_at around.now)) entries.now }
+    requires { All (IsEntry (env_of around.now) (stmt_context around.now)) entries.now }
 {
     let after = draft.body.block(alloc)?;
     for entry in entries {
@@ -35,32 +35,32 @@ pub(crate) fn if_entries(
 #[cycle(stmts)]
 fn if_entry(
     alloc: Global,
-    around: &Around<'_>,
-    draft: &mut Draft,
-    entry: &TestCore,
+    around: &StmtContext<'_>,
+    draft: &mut ProgramBuilder,
+    entry: &TypedBranch,
     after: u32,
 ) -> Result<(), NoMemory>
-    requires { IsEntry (frame_of around.now) (place_at around.now) entry.now }
+    requires { IsEntry (env_of around.now) (stmt_context around.now) entry.now }
 {
     let next = entry_tests(alloc, around, draft, entry.tests.as_slice())?;
     stmts(alloc, around, draft, entry.body.as_slice())?;
-    draft.body.end(alloc, FlatExit::Jump(after), next)
+    draft.body.end(alloc, Terminator::Jump(after), next)
 }
 
 /// The tests of an entry up to the first that is true. They leave the block of the entry's statements open, and give the one
 /// in which it goes on where none is true.
 fn entry_tests(
     alloc: Global,
-    around: &Around<'_>,
-    draft: &mut Draft,
-    tests: &[ExprCore],
+    around: &StmtContext<'_>,
+    draft: &mut ProgramBuilder,
+    tests: &[TypedExpr],
 ) -> Result<u32, NoMemory>
-    requires { All (HasValue (frame_of around.now) (place_at around.now)) tests.now }
+    requires { All (HasValue (env_of around.now) (stmt_context around.now)) tests.now }
 {
     let body = draft.body.block(alloc)?;
     let Some((first, others)) = tests.split_first() else {
         let next = draft.body.block(alloc)?;
-        draft.body.end(alloc, FlatExit::Jump(next), body)?;
+        draft.body.end(alloc, Terminator::Jump(next), body)?;
         return Ok(next);
     };
     let mut last = value_of(alloc, around, draft, first)?;
@@ -75,19 +75,19 @@ fn entry_tests(
 /// The next test of an entry, where the one before is false.
 fn next_test(
     alloc: Global,
-    around: &Around<'_>,
-    draft: &mut Draft,
+    around: &StmtContext<'_>,
+    draft: &mut ProgramBuilder,
     before: u32,
     body: u32,
-    test: &ExprCore,
+    test: &TypedExpr,
 ) -> Result<u32, NoMemory>
-    requires { HasValue (frame_of around.now) (place_at around.now) test.now }
+    requires { HasValue (env_of around.now) (stmt_context around.now) test.now }
 {
     let next = draft.body.block(alloc)?;
     draft.body.end(alloc, test_exit(before, body, next), next)?;
     value_of(alloc, around, draft, test)
 }
 
-fn test_exit(test: u32, yes: u32, no: u32) -> FlatExit {
-    FlatExit::Branch { test, yes, no }
+fn test_exit(test: u32, yes: u32, no: u32) -> Terminator {
+    Terminator::Branch { test, yes, no }
 }

@@ -1,7 +1,7 @@
 //! Typed statements as steps and blocks of the body that is being filled.
 #![tactic(auto)]
 
-mod around;
+mod context;
 mod entries;
 mod instance;
 mod leaving;
@@ -13,4 +13,4 @@ mod stmts;
 mod typecase;
 mod value;
 
-pub use stmts::place_body;
+pub use stmts::lower_body;

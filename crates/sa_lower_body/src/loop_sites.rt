@@ -1,8 +1,8 @@
 //! The sites of a feature by the loops that own their instances, so that all loops together cost one walk over the sites.
 
 use indexmap::IndexMap;
-use sa_core::SiteCore;
-use sa_tree::{NoMemory, held};
+use sa_ast::{NoMemory, held};
+use sa_typed::Site;
 use sqlite_items::Items;
 use std::alloc::Global;
 
@@ -15,7 +15,7 @@ pub(crate) struct LoopSites {
 
 impl LoopSites {
     /// These sites.
-    pub fn of(alloc: Global, sites: &[SiteCore]) -> Result<LoopSites, NoMemory> {
+    pub fn of(alloc: Global, sites: &[Site]) -> Result<LoopSites, NoMemory> {
         let mut all = LoopSites {
             by_loop: IndexMap::new(alloc),
         };

@@ -3,18 +3,18 @@
 //! protect.
 
 ghost use Rattle.std.specs.Prelude.{◌≡◌, All};
-ghost use Rattle.sa_lower_body.specs.Typed.{AreWellTyped, IsBranch, frame_of, place_at};
-ghost use Rattle.sa_lower_draft.specs.Places.{place_of};
-ghost use Rattle.sa_well.specs.Builtins.{ob_type};
-ghost use Rattle.sa_well.specs.Places.{guarded, in_branch};
+ghost use Rattle.sa_lower_body.specs.TypedStatements.{AreWellTypedStmts, IsBranch, env_of, stmt_context};
+ghost use Rattle.sa_cfg_builder.specs.Contexts.{context_of};
+ghost use Rattle.sa_typing.specs.Builtins.{ob_type};
+ghost use Rattle.sa_typing.specs.Contexts.{guarded, in_branch};
 
-use crate::around::Around;
+use crate::context::StmtContext;
 use crate::stmts::stmts;
-use sa_core::{ArmCore, StmtCore};
-use sa_flat::{FlatExit, FlatStep, Raised};
-use sa_lower_draft::{ArmTest, Draft, Exception, Inside, OpenBody};
-use sa_tree::{NoMemory, held};
-use sa_well::{OB, View};
+use sa_ast::{NoMemory, held};
+use sa_cfg::{CfgOperation, Handler, Terminator};
+use sa_cfg_builder::{BodyBuilder, CaughtException, ClassTest, LoweringContext, ProgramBuilder};
+use sa_typed::{TypedArm, TypedStmt};
+use sa_typing::{OB, TypingView};
 use sqlite_items::Items;
 use std::alloc::Global;
 
@@ -22,7 +22,7 @@ use std::alloc::Global;
 /// the statements inside it, and the block behind it.
 #[derive(Clone, Copy)]
 pub(crate) struct Protect {
-    raised: Raised,
+    raised: Handler,
     exception: u32,
     first_temporary: u32,
     after: u32,
@@ -30,21 +30,21 @@ pub(crate) struct Protect {
 
 impl Protect {
     /// What is around the statements that the protect guards.
-    fn guarded(&self, around: Inside) -> Inside
-        ensures { place_of result ≡ guarded (place_of around) }
+    fn guarded(&self, around: LoweringContext) -> LoweringContext
+        ensures { context_of result ≡ guarded (context_of around) }
     {
-        Inside {
+        LoweringContext {
             raised: self.raised,
-            ..self.behind(around)
+            ..self.following(around)
         }
     }
 
     /// What is around the block to which the raises of these statements go: what is around the protect, whose variables no
     /// statement inside it uses as temporaries.
-    fn behind(&self, around: Inside) -> Inside
-        ensures { place_of result ≡ guarded (place_of around) }
+    fn following(&self, around: LoweringContext) -> LoweringContext
+        ensures { context_of result ≡ guarded (context_of around) }
     {
-        Inside {
+        LoweringContext {
             guarded: true,
             protected: true,
             first_temporary: self.first_temporary,
@@ -53,15 +53,15 @@ impl Protect {
     }
 
     /// What is around the statements of a branch of this type.
-    fn branch(&self, around: Inside, ty: u32) -> Inside
-        ensures { place_of result ≡ in_branch ty (guarded (place_of around)) }
+    fn branch(&self, around: LoweringContext, ty: u32) -> LoweringContext
+        ensures { context_of result ≡ in_branch ty (guarded (context_of around)) }
     {
-        Inside {
-            exception: Some(Exception {
+        LoweringContext {
+            exception: Some(CaughtException {
                 var: self.exception,
                 ty,
             }),
-            ..self.behind(around)
+            ..self.following(around)
         }
     }
 }
@@ -70,16 +70,16 @@ impl Protect {
 #[cycle(stmts)]
 pub(crate) fn guarded(
     alloc: Global,
-    around: &Around<'_>,
-    draft: &mut Draft,
-    list: &[StmtCore],
+    around: &StmtContext<'_>,
+    draft: &mut ProgramBuilder,
+    list: &[TypedStmt],
 ) -> Result<Protect, NoMemory>
-    requires { AreWellTyped (frame_of around.now) (guarded (place_at around.now)) list.now }
+    requires { AreWellTypedStmts (env_of around.now) (guarded (stmt_context around.now)) list.now }
 {
     let protect = begin_protect(alloc, around, &mut draft.body)?;
     let inside = around.with(protect.guarded(around.inside));
     stmts(alloc, &inside, draft, list)?;
-    let exit = FlatExit::Jump(protect.after);
+    let exit = Terminator::Jump(protect.after);
     draft.body.end(alloc, exit, protect.raised.block)?;
     Ok(protect)
 }
@@ -88,8 +88,8 @@ pub(crate) fn guarded(
 /// blocks.
 fn begin_protect(
     alloc: Global,
-    around: &Around<'_>,
-    body: &mut OpenBody,
+    around: &StmtContext<'_>,
+    body: &mut BodyBuilder,
 ) -> Result<Protect, NoMemory> {
     let value = around.inside.first_temporary;
     let place = held(value.checked_add(1))?;
@@ -97,7 +97,7 @@ fn begin_protect(
     let exception = held(kind.checked_add(1))?;
     let first_temporary = held(exception.checked_add(1))?;
     body.use_up_to(first_temporary);
-    let raised = Raised {
+    let raised = Handler {
         block: body.block(alloc)?,
         value,
         place,
@@ -115,20 +115,20 @@ fn begin_protect(
 /// open afterwards is the one where no branch fits.
 pub(crate) fn choose_arm(
     alloc: Global,
-    around: &Around<'_>,
-    body: &mut OpenBody,
+    around: &StmtContext<'_>,
+    body: &mut BodyBuilder,
     protect: &Protect,
-    list: &[ArmCore],
+    list: &[TypedArm],
 ) -> Result<Items<u32>, NoMemory> {
     let mut blocks = Items::new(alloc);
     let mut arms = Items::new(alloc);
     for arm in list {
         let block = body.block(alloc)?;
         blocks.push(block)?;
-        arms.push(ArmTest { ty: arm.ty, block })?;
+        arms.push(ClassTest { ty: arm.ty, block })?;
     }
     let rest = body.block(alloc)?;
-    let inside = protect.behind(around.inside);
+    let inside = protect.following(around.inside);
     let value = protect.raised.value;
     body.choose_arm(alloc, &inside, value, arms.as_slice(), rest)?;
     Ok(blocks)
@@ -138,12 +138,12 @@ pub(crate) fn choose_arm(
 #[cycle(stmts)]
 pub(crate) fn other_stmts(
     alloc: Global,
-    around: &Around<'_>,
-    draft: &mut Draft,
+    around: &StmtContext<'_>,
+    draft: &mut ProgramBuilder,
     protect: &Protect,
-    list: &[StmtCore],
+    list: &[TypedStmt],
 ) -> Result<(), NoMemory>
-    requires { AreWellTyped (frame_of around.now) (in_branch ob_type (guarded (place_at around.now))) list.now }
+    requires { AreWellTypedStmts (env_of around.now) (in_branch ob_type (guarded (stmt_context around.now))) list.now }
 {
     let from = protect.raised.value;
     draft.body.move_to(protect.exception, from)?;
@@ -152,31 +152,31 @@ pub(crate) fn other_stmts(
 }
 
 /// A protect without `else`: where no branch fits the raise goes on to what is around the protect.
-pub(crate) fn hand_on(
+pub(crate) fn forward_raise(
     alloc: Global,
-    around: &Around<'_>,
-    body: &mut OpenBody,
+    around: &StmtContext<'_>,
+    body: &mut BodyBuilder,
     protect: &Protect,
 ) -> Result<(), NoMemory> {
-    body.hand_on(alloc, protect.raised, around.inside.raised)
+    body.forward_raise(alloc, protect.raised, around.inside.raised)
 }
 
 /// The branches in order, each in its block. The block behind the protect is open afterwards.
 #[cycle(stmts)]
 pub(crate) fn protect_arms(
     alloc: Global,
-    around: &Around<'_>,
-    draft: &mut Draft,
+    around: &StmtContext<'_>,
+    draft: &mut ProgramBuilder,
     protect: &Protect,
-    list: &[ArmCore],
+    list: &[TypedArm],
     blocks: &[u32],
 ) -> Result<(), NoMemory>
-    requires { All (IsBranch (frame_of around.now) (guarded (place_at around.now))) list.now }
+    requires { All (IsBranch (env_of around.now) (guarded (stmt_context around.now))) list.now }
 {
     for (arm, block) in list.iter().zip(blocks.iter()) {
         protect_arm(alloc, around, draft, protect, arm, *block)?;
     }
-    let exit = FlatExit::Jump(protect.after);
+    let exit = Terminator::Jump(protect.after);
     draft.body.end(alloc, exit, protect.after)
 }
 
@@ -184,15 +184,15 @@ pub(crate) fn protect_arms(
 #[cycle(stmts)]
 fn protect_arm(
     alloc: Global,
-    around: &Around<'_>,
-    draft: &mut Draft,
+    around: &StmtContext<'_>,
+    draft: &mut ProgramBuilder,
     protect: &Protect,
-    arm: &ArmCore,
+    arm: &TypedArm,
     block: u32,
 ) -> Result<(), NoMemory>
-    requires { IsBranch (frame_of around.now) (guarded (place_at around.now)) arm.now }
+    requires { IsBranch (env_of around.now) (guarded (stmt_context around.now)) arm.now }
 {
-    let exit = FlatExit::Jump(protect.after);
+    let exit = Terminator::Jump(protect.after);
     draft.body.end(alloc, exit, block)?;
     take_exception(&around.scope.view, &mut draft.body, protect, arm.ty)?;
     let inside = around.with(protect.branch(around.inside, arm.ty));
@@ -201,15 +201,15 @@ fn protect_arm(
 
 /// The raised object into the variable of the exception, as a branch of this type has it.
 fn take_exception(
-    view: &View<'_>,
-    body: &mut OpenBody,
+    view: &TypingView<'_>,
+    body: &mut BodyBuilder,
     protect: &Protect,
     ty: u32,
 ) -> Result<(), NoMemory> {
     let to = protect.exception;
     let from = protect.raised.value;
     if view.is_immutable(ty) {
-        return body.step(FlatStep::Unwrap { to, from, ty });
+        return body.step(CfgOperation::Unbox { to, from, ty });
     }
     body.move_to(to, from)
 }

@@ -1,25 +1,25 @@
 //! Lists of statements, and a statement by its form.
 
 ghost use Rattle.std.specs.Prelude.{IsTrue};
-ghost use Rattle.sa_core.specs.Copy.{block_of};
-ghost use Rattle.sa_lower_body.specs.Typed.{AreWellTyped, IsWellTyped, frame_of, place_at};
-ghost use Rattle.sa_well.specs.Places.{frame, outside};
-ghost use Rattle.sa_well.specs.Statements.{well_stmts};
+ghost use Rattle.sa_typed.specs.Copy.{block_of};
+ghost use Rattle.sa_lower_body.specs.TypedStatements.{AreWellTypedStmts, IsWellTypedStmt, env_of, stmt_context};
+ghost use Rattle.sa_typing.specs.Contexts.{env, outside};
+ghost use Rattle.sa_typing.specs.Statements.{well_stmts};
 
-use crate::around::Around;
+use crate::context::StmtContext;
 use crate::entries::if_entries;
 use crate::instance::{quit, yield_value};
 use crate::leaving::{leave_body, leave_loop, raise, stop};
 use crate::loop_sites::LoopSites;
 use crate::looping::loop_stmt;
-use crate::protecting::{choose_arm, guarded, hand_on, other_stmts, protect_arms};
+use crate::protecting::{choose_arm, forward_raise, guarded, other_stmts, protect_arms};
 use crate::simple::{assign, perform};
 use crate::typecase::{no_arm_fits, typecase_arms};
-use sa_core::StmtCore;
-use sa_flat::FlatExit;
-use sa_lower_draft::{Draft, Inside};
-use sa_tree::NoMemory;
-use sa_well::Scope;
+use sa_ast::NoMemory;
+use sa_cfg::Terminator;
+use sa_cfg_builder::{LoweringContext, ProgramBuilder};
+use sa_typed::TypedStmt;
+use sa_typing::TypingEnv;
 use std::alloc::Global;
 
 /// Places the statements of a feature at the end of the open block. The block that is open afterwards is the one behind them.
@@ -27,20 +27,20 @@ use std::alloc::Global;
 /// # Errors
 ///
 /// `NoMemory`.
-#[tactic(auto, using(crate::proofs::Parts::parts))]
-pub fn place_body(
+#[tactic(auto, using(crate::proofs::StmtParts::parts))]
+pub fn lower_body(
     alloc: Global,
-    scope: &Scope<'_>,
-    draft: &mut Draft,
-    body: &[StmtCore],
+    scope: &TypingEnv<'_>,
+    draft: &mut ProgramBuilder,
+    body: &[TypedStmt],
 ) -> Result<(), NoMemory>
-    requires { IsTrue (well_stmts (frame scope.now) outside (block_of body.now)) }
+    requires { IsTrue (well_stmts (env scope.now) outside (block_of body.now)) }
 {
     let sites = LoopSites::of(alloc, scope.sites)?;
-    let around = Around {
+    let around = StmtContext {
         scope,
         sites: &sites,
-        inside: Inside::of_body(),
+        inside: LoweringContext::of_body(),
     };
     stmts(alloc, &around, draft, body)
 }
@@ -49,11 +49,11 @@ pub fn place_body(
 #[cycle(stmts)]
 pub(crate) fn stmts(
     alloc: Global,
-    around: &Around<'_>,
-    draft: &mut Draft,
-    list: &[StmtCore],
+    around: &StmtContext<'_>,
+    draft: &mut ProgramBuilder,
+    list: &[TypedStmt],
 ) -> Result<(), NoMemory>
-    requires { AreWellTyped (frame_of around.now) (place_at around.now) list.now }
+    requires { AreWellTypedStmts (env_of around.now) (stmt_context around.now) list.now }
 {
     for s in list {
         stmt(alloc, around, draft, s)?;
@@ -62,21 +62,26 @@ pub(crate) fn stmts(
 }
 
 /// Places a statement.
-#[tactic(auto, using(crate::proofs::Parts::parts))]
+#[tactic(auto, using(crate::proofs::StmtParts::parts))]
 #[cycle(stmts)]
-fn stmt(alloc: Global, around: &Around<'_>, draft: &mut Draft, s: &StmtCore) -> Result<(), NoMemory>
-    requires { IsWellTyped (frame_of around.now) (place_at around.now) s.now }
+fn stmt(
+    alloc: Global,
+    around: &StmtContext<'_>,
+    draft: &mut ProgramBuilder,
+    s: &TypedStmt,
+) -> Result<(), NoMemory>
+    requires { IsWellTypedStmt (env_of around.now) (stmt_context around.now) s.now }
 {
     match s {
-        StmtCore::Let(var, e) => assign(alloc, around, draft, *var, e),
-        StmtCore::Do(e) => perform(alloc, around, draft, e),
-        StmtCore::If(entries, other) => {
+        TypedStmt::Assign(var, e) => assign(alloc, around, draft, *var, e),
+        TypedStmt::ExprStmt(e) => perform(alloc, around, draft, e),
+        TypedStmt::If(entries, other) => {
             let after = if_entries(alloc, around, draft, entries.as_slice())?;
             else_stmts(alloc, around, draft, other.as_slice(), after)
         }
-        StmtCore::Loop(number, body) => loop_stmt(alloc, around, draft, *number, body.as_slice()),
-        StmtCore::Leave(exit) => leave_loop(alloc, around, draft, exit),
-        StmtCore::TypeCase(var, arms, other, pos) => {
+        TypedStmt::Loop(number, body) => loop_stmt(alloc, around, draft, *number, body.as_slice()),
+        TypedStmt::ExitLoop(exit) => leave_loop(alloc, around, draft, exit),
+        TypedStmt::TypeCase(var, arms, other, pos) => {
             let after = typecase_arms(alloc, around, draft, *var, arms.as_slice())?;
             match (after, other) {
                 (None, _) => Ok(()),
@@ -86,21 +91,21 @@ fn stmt(alloc: Global, around: &Around<'_>, draft: &mut Draft, s: &StmtCore) -> 
                 }
             }
         }
-        StmtCore::Protect(body, arms, other) => {
+        TypedStmt::Protect(body, arms, other) => {
             let arms = arms.as_slice();
             let protect = guarded(alloc, around, draft, body.as_slice())?;
             let blocks = choose_arm(alloc, around, &mut draft.body, &protect, arms)?;
             match other {
-                None => hand_on(alloc, around, &mut draft.body, &protect)?,
+                None => forward_raise(alloc, around, &mut draft.body, &protect)?,
                 Some(other) => other_stmts(alloc, around, draft, &protect, other.as_slice())?,
             }
             protect_arms(alloc, around, draft, &protect, arms, blocks.as_slice())
         }
-        StmtCore::Return(e) => leave_body(alloc, around, draft, e),
-        StmtCore::Raise(e, pos) => raise(alloc, around, draft, e, *pos),
-        StmtCore::Yield(e) => yield_value(alloc, around, draft, e),
-        StmtCore::Quit => quit(alloc, &around.inside, &mut draft.body),
-        StmtCore::Stop(kind, pos) => stop(alloc, around, draft, *kind, *pos),
+        TypedStmt::Return(e) => leave_body(alloc, around, draft, e),
+        TypedStmt::Raise(e, pos) => raise(alloc, around, draft, e, *pos),
+        TypedStmt::Yield(e) => yield_value(alloc, around, draft, e),
+        TypedStmt::Quit => quit(alloc, &around.inside, &mut draft.body),
+        TypedStmt::Fault(kind, pos) => stop(alloc, around, draft, *kind, *pos),
     }
 }
 
@@ -108,13 +113,13 @@ fn stmt(alloc: Global, around: &Around<'_>, draft: &mut Draft, s: &StmtCore) -> 
 #[cycle(stmts)]
 fn else_stmts(
     alloc: Global,
-    around: &Around<'_>,
-    draft: &mut Draft,
-    list: &[StmtCore],
+    around: &StmtContext<'_>,
+    draft: &mut ProgramBuilder,
+    list: &[TypedStmt],
     after: u32,
 ) -> Result<(), NoMemory>
-    requires { AreWellTyped (frame_of around.now) (place_at around.now) list.now }
+    requires { AreWellTypedStmts (env_of around.now) (stmt_context around.now) list.now }
 {
     stmts(alloc, around, draft, list)?;
-    draft.body.end(alloc, FlatExit::Jump(after), after)
+    draft.body.end(alloc, Terminator::Jump(after), after)
 }

@@ -2,14 +2,14 @@
 //! value has that class, so the arm is known and placed alone.
 
 ghost use Rattle.std.specs.Prelude.{◌<◌, All, length};
-ghost use Rattle.sa_lower_body.specs.Typed.{IsArm, frame_of, place_at};
+ghost use Rattle.sa_lower_body.specs.TypedStatements.{IsArm, env_of, stmt_context};
 
-use crate::around::Around;
+use crate::context::StmtContext;
 use crate::stmts::stmts;
-use sa_core::ArmCore;
-use sa_flat::{FlatExit, FlatStep};
-use sa_lower_draft::{ArmTest, Draft, Inside, OpenBody};
-use sa_tree::{FaultKind, NoMemory, Pos};
+use sa_ast::{FaultKind, NoMemory, Pos};
+use sa_cfg::{CfgOperation, Terminator};
+use sa_cfg_builder::{BodyBuilder, ClassTest, LoweringContext, ProgramBuilder};
+use sa_typed::TypedArm;
 use std::alloc::Global;
 
 /// The arms of a `typecase`. They leave the block open where none of them fits, and give the block behind the typecase; or
@@ -17,13 +17,13 @@ use std::alloc::Global;
 #[cycle(stmts)]
 pub(crate) fn typecase_arms(
     alloc: Global,
-    around: &Around<'_>,
-    draft: &mut Draft,
+    around: &StmtContext<'_>,
+    draft: &mut ProgramBuilder,
     var: u32,
-    arms: &[ArmCore],
+    arms: &[TypedArm],
 ) -> Result<Option<u32>, NoMemory>
     requires variable { var < length around.now.scope.now.vars.now }
-    requires arms { All (IsArm (frame_of around.now) (place_at around.now)) arms.now }
+    requires arms { All (IsArm (env_of around.now) (stmt_context around.now)) arms.now }
 {
     let ty = around.scope.vars[var as usize];
     if around.scope.view.is_immutable(ty) {
@@ -38,16 +38,16 @@ pub(crate) fn typecase_arms(
 #[cycle(stmts)]
 fn known_arm(
     alloc: Global,
-    around: &Around<'_>,
-    draft: &mut Draft,
+    around: &StmtContext<'_>,
+    draft: &mut ProgramBuilder,
     var: u32,
     ty: u32,
-    arms: &[ArmCore],
+    arms: &[TypedArm],
 ) -> Result<Option<u32>, NoMemory>
-    requires { All (IsArm (frame_of around.now) (place_at around.now)) arms.now }
+    requires { All (IsArm (env_of around.now) (stmt_context around.now)) arms.now }
 {
     for arm in arms {
-        if around.scope.view.holds(arm.ty, ty) {
+        if around.scope.view.is_supertype(arm.ty, ty) {
             draft.body.move_to(arm.var, var)?;
             stmts(alloc, around, draft, arm.body.as_slice())?;
             return Ok(None);
@@ -60,13 +60,13 @@ fn known_arm(
 #[cycle(stmts)]
 fn tested_arms(
     alloc: Global,
-    around: &Around<'_>,
-    draft: &mut Draft,
+    around: &StmtContext<'_>,
+    draft: &mut ProgramBuilder,
     var: u32,
-    arms: &[ArmCore],
+    arms: &[TypedArm],
     after: u32,
 ) -> Result<(), NoMemory>
-    requires { All (IsArm (frame_of around.now) (place_at around.now)) arms.now }
+    requires { All (IsArm (env_of around.now) (stmt_context around.now)) arms.now }
 {
     for arm in arms {
         tested_arm(alloc, around, draft, var, arm, after)?;
@@ -78,44 +78,44 @@ fn tested_arms(
 #[cycle(stmts)]
 fn tested_arm(
     alloc: Global,
-    around: &Around<'_>,
-    draft: &mut Draft,
+    around: &StmtContext<'_>,
+    draft: &mut ProgramBuilder,
     var: u32,
-    arm: &ArmCore,
+    arm: &TypedArm,
     after: u32,
 ) -> Result<(), NoMemory>
-    requires { IsArm (frame_of around.now) (place_at around.now) arm.now }
+    requires { IsArm (env_of around.now) (stmt_context around.now) arm.now }
 {
     let next = arm_test(alloc, &around.inside, &mut draft.body, var, arm.ty)?;
     take_arm(around, &mut draft.body, var, arm)?;
     stmts(alloc, around, draft, arm.body.as_slice())?;
-    draft.body.end(alloc, FlatExit::Jump(after), next)
+    draft.body.end(alloc, Terminator::Jump(after), next)
 }
 
 /// Tests the class of a variable's value. The block where it fits is open then; the answer is the one where it doesn't.
 fn arm_test(
     alloc: Global,
-    inside: &Inside,
-    body: &mut OpenBody,
+    inside: &LoweringContext,
+    body: &mut BodyBuilder,
     var: u32,
     ty: u32,
 ) -> Result<u32, NoMemory> {
     let fits = body.block(alloc)?;
     let next = body.block(alloc)?;
-    let exit = body.test_class(inside, var, ArmTest { ty, block: fits }, next)?;
+    let exit = body.test_class(inside, var, ClassTest { ty, block: fits }, next)?;
     body.end(alloc, exit, fits)?;
     Ok(next)
 }
 
 /// The tested value into the variable of an arm.
 fn take_arm(
-    around: &Around<'_>,
-    body: &mut OpenBody,
+    around: &StmtContext<'_>,
+    body: &mut BodyBuilder,
     var: u32,
-    arm: &ArmCore,
+    arm: &TypedArm,
 ) -> Result<(), NoMemory> {
     if around.scope.view.is_immutable(arm.ty) {
-        return body.step(FlatStep::Unwrap {
+        return body.step(CfgOperation::Unbox {
             to: arm.var,
             from: var,
             ty: arm.ty,
@@ -127,13 +127,13 @@ fn take_arm(
 /// A typecase without `else`: where no arm fits it is a fault.
 pub(crate) fn no_arm_fits(
     alloc: Global,
-    around: &Around<'_>,
-    draft: &mut Draft,
+    around: &StmtContext<'_>,
+    draft: &mut ProgramBuilder,
     pos: Pos,
     after: u32,
 ) -> Result<(), NoMemory> {
     let fail = draft.tables.fail(pos, around.inside.raised)?;
-    let exit = FlatExit::Stop {
+    let exit = Terminator::Fault {
         kind: FaultKind::NoBranch,
         fail,
     };

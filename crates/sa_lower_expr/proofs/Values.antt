@@ -2,18 +2,18 @@
 use Rattle.std.proofs.Common.{◌≡◌, ℕ, Bool, true, false, ◌&&◌, if◌then◌else◌, Option, Some, None, option_and_then, is_some, refl, sym, ap, subst, ◌∙◌, true≢false}
 use Rattle.std.specs.Prelude.{IsTrue}
 use Rattle.std.specs.Option.{option_map_or}
-use Rattle.sa_core.specs.declared.expr.ExprCore.{ExprCore}
-use Rattle.sa_core.specs.Copy.{expr_of}
-use Rattle.sa_core.specs.Tree.{Expr}
-use Rattle.sa_well.specs.declared.given.Given.{Given}
-use Rattle.sa_well.specs.declared.given.Given.TheVariants.{Nothing, Plain, Widened}
-use Rattle.sa_well.specs.declared.place.Place.{Place}
-use Rattle.sa_well.specs.Builtins.{bool_type}
-use Rattle.sa_well.specs.Expressions.{goes, type_of_expr}
-use Rattle.sa_well.specs.Forms.{is_test, value_goes}
-use Rattle.sa_well.specs.Given.{goes_to, is_plain, is_value}
-use Rattle.sa_well.specs.Places.{Frame}
-use Rattle.sa_well.specs.Rows.{Rows}
+use Rattle.sa_typed.specs.declared.expr.TypedExpr.{TypedExpr}
+use Rattle.sa_typed.specs.Copy.{expr_of}
+use Rattle.sa_typed.specs.Tree.{Expr}
+use Rattle.sa_typing.specs.declared.expr_type.ExprType.{ExprType}
+use Rattle.sa_typing.specs.declared.expr_type.ExprType.TheVariants.{NoValue, Of, BoxedOf}
+use Rattle.sa_typing.specs.declared.context.TypingContext.{TypingContext}
+use Rattle.sa_typing.specs.Builtins.{bool_type}
+use Rattle.sa_typing.specs.Expressions.{is_assignable_expr, type_of_expr}
+use Rattle.sa_typing.specs.Forms.{is_test, is_assignable_type}
+use Rattle.sa_typing.specs.ExprType.{is_assignable, is_plain, is_value}
+use Rattle.sa_typing.specs.Contexts.{Env}
+use Rattle.sa_typing.specs.Rows.{Rows}
 use Rattle.sa_lower_expr.specs.Typed.{HasValue, IsTyped, gives_value}
 
 -- ---- tests and options
@@ -37,57 +37,57 @@ if_some false x h = h
 
 -- ---- values
 
-pub goes_value : (w : Rows) (g : Given) (ty : ℕ) → IsTrue (goes_to w g ty) → IsTrue (is_value g)
-goes_value w Nothing ty h = h
-goes_value w (Plain own) ty h = refl
-goes_value w (Widened own) ty h = refl
+pub goes_value : (w : Rows) (g : ExprType) (ty : ℕ) → IsTrue (is_assignable w g ty) → IsTrue (is_value g)
+goes_value w NoValue ty h = h
+goes_value w (Of own) ty h = refl
+goes_value w (BoxedOf own) ty h = refl
 
-pub plain_value : (g : Given) (ty : ℕ) → IsTrue (is_plain ty g) → IsTrue (is_value g)
-plain_value Nothing ty h = h
-plain_value (Plain own) ty h = refl
-plain_value (Widened own) ty h = refl
+pub plain_value : (g : ExprType) (ty : ℕ) → IsTrue (is_plain ty g) → IsTrue (is_value g)
+plain_value NoValue ty h = h
+plain_value (Of own) ty h = refl
+plain_value (BoxedOf own) ty h = refl
 
-value_some : (o : Option Given) → IsTrue (option_map_or is_value o false) → IsTrue (is_some o)
+value_some : (o : Option ExprType) → IsTrue (option_map_or is_value o false) → IsTrue (is_some o)
 value_some None h = h
 value_some (Some g) h = refl
 
-module _ (f : Frame) (at : Place) where
+module _ (f : Env) (at : TypingContext) where
   -- what an expression gives is a value
-  pub has_value : (e : ExprCore) (g : Given) → type_of_expr f at (expr_of e) ≡ Some g → IsTrue (is_value g) → HasValue f at e
+  pub has_value : (e : TypedExpr) (g : ExprType) → type_of_expr f at (expr_of e) ≡ Some g → IsTrue (is_value g) → HasValue f at e
   unfolding HasValue gives_value
-  has_value e g is v = ap (λ (o : Option Given). option_map_or is_value o false) is ∙ v
+  has_value e g is v = ap (λ (o : Option ExprType). option_map_or is_value o false) is ∙ v
 
-  pub typed_as : (e : ExprCore) (x : Expr) → expr_of e ≡ x → IsTyped f at e → IsTrue (is_some (type_of_expr f at x))
+  pub typed_as : (e : TypedExpr) (x : Expr) → expr_of e ≡ x → IsTyped f at e → IsTrue (is_some (type_of_expr f at x))
   unfolding IsTyped
   typed_as e x is h = subst (λ (y : Expr). IsTrue (is_some (type_of_expr f at y))) is h
 
-  pub goes_has : (w : Rows) (ty : ℕ) (e : ExprCore) (o : Option Given) → type_of_expr f at (expr_of e) ≡ o → IsTrue (value_goes w ty o) → HasValue f at e
+  pub goes_has : (w : Rows) (ty : ℕ) (e : TypedExpr) (o : Option ExprType) → type_of_expr f at (expr_of e) ≡ o → IsTrue (is_assignable_type w ty o) → HasValue f at e
   goes_has w ty e None is h = absurd (true≢false (sym h))
   goes_has w ty e (Some g) is h = has_value e g is (goes_value w g ty h)
 
   -- what may stand where a type is wanted gives a value
-  pub going_has : (ty : ℕ) (e : ExprCore) → IsTrue (goes f at ty (expr_of e)) → HasValue f at e
+  pub going_has : (ty : ℕ) (e : TypedExpr) → IsTrue (is_assignable_expr f at ty (expr_of e)) → HasValue f at e
   going_has ty e h = goes_has f.rows ty e (type_of_expr f at (expr_of e)) refl h
 
-  test_value : (e : ExprCore) (o : Option Given) → type_of_expr f at (expr_of e) ≡ o → IsTrue (is_test o) → HasValue f at e
+  test_value : (e : TypedExpr) (o : Option ExprType) → type_of_expr f at (expr_of e) ≡ o → IsTrue (is_test o) → HasValue f at e
   test_value e None is h = absurd (true≢false (sym h))
   test_value e (Some g) is h = has_value e g is (plain_value g bool_type h)
 
   -- a test gives one
-  pub test_has : (e : ExprCore) → IsTrue (is_test (type_of_expr f at (expr_of e))) → HasValue f at e
+  pub test_has : (e : TypedExpr) → IsTrue (is_test (type_of_expr f at (expr_of e))) → HasValue f at e
   test_has e h = test_value e (type_of_expr f at (expr_of e)) refl h
 
   -- an expression whose type is known is well typed
-  pub type_known : (e : ExprCore) → IsTrue (is_some (type_of_expr f at (expr_of e))) → IsTyped f at e
+  pub type_known : (e : TypedExpr) → IsTrue (is_some (type_of_expr f at (expr_of e))) → IsTyped f at e
   unfolding IsTyped
   type_known e h = h
 
   -- one that gives a value is
-  pub value_typed : (e : ExprCore) → HasValue f at e → IsTyped f at e
+  pub value_typed : (e : TypedExpr) → HasValue f at e → IsTyped f at e
   unfolding HasValue gives_value IsTyped
   value_typed e h = value_some (type_of_expr f at (expr_of e)) h
 
   -- its value is in a variable
-  pub not_missing : (e : ExprCore) (var : Option ℕ) → HasValue f at e → is_some var ≡ gives_value f at e → var ≡ None → ⊥
+  pub not_missing : (e : TypedExpr) (var : Option ℕ) → HasValue f at e → is_some var ≡ gives_value f at e → var ≡ None → ⊥
   unfolding HasValue
   not_missing e var h is none = true≢false (sym h ∙ sym is ∙ ap (λ (v : Option ℕ). is_some v) none)

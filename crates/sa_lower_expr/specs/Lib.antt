@@ -1,3 +1,3 @@
-pub mod Around
+pub mod ExprContext
 pub mod Kinds
 pub mod Typed

@@ -1,16 +1,16 @@
 //! The arguments of a call, from left to right.
 
 ghost use Rattle.std.specs.Prelude.{All};
-ghost use Rattle.sa_lower_expr.specs.Around.{at_of, frame_of};
+ghost use Rattle.sa_lower_expr.specs.ExprContext.{expr_context, env_of};
 ghost use Rattle.sa_lower_expr.specs.Typed.{IsArgument};
 
-use crate::around::Around;
+use crate::context::ExprContext;
 use crate::expr::operand;
-use crate::passing::{Passed, none_passed, pass_open, pass_value, pass_variable};
-use sa_core::ArgCore;
-use sa_lower_draft::Draft;
-use sa_tree::{Mode, NoMemory};
-use sa_well::Reached;
+use crate::passing::{LoweredArgs, none_passed, pass_open, pass_value, pass_variable};
+use sa_ast::{Mode, NoMemory};
+use sa_cfg_builder::ProgramBuilder;
+use sa_typed::TypedArg;
+use sa_typing::ResolvedCallee;
 use sqlite_items::Items;
 use std::alloc::Global;
 
@@ -19,13 +19,13 @@ use std::alloc::Global;
 #[cycle(place)]
 pub(crate) fn arguments(
     alloc: Global,
-    around: &Around<'_>,
-    draft: &mut Draft,
-    reached: Reached,
-    args: &[ArgCore],
+    around: &ExprContext<'_>,
+    draft: &mut ProgramBuilder,
+    reached: ResolvedCallee,
+    args: &[TypedArg],
     before: &[Option<u32>],
-) -> Result<Passed, NoMemory>
-    requires { All (IsArgument (frame_of around.now) (at_of around.now)) args.now }
+) -> Result<LoweredArgs, NoMemory>
+    requires { All (IsArgument (env_of around.now) (expr_context around.now)) args.now }
 {
     let mut passed = none_passed(alloc, around, reached, args);
     for arg in args {
@@ -41,28 +41,28 @@ pub(crate) fn arguments(
 #[cycle(place)]
 fn argument(
     alloc: Global,
-    around: &Around<'_>,
-    draft: &mut Draft,
-    reached: Reached,
-    arg: &ArgCore,
-    passed: &mut Passed,
+    around: &ExprContext<'_>,
+    draft: &mut ProgramBuilder,
+    reached: ResolvedCallee,
+    arg: &TypedArg,
+    passed: &mut LoweredArgs,
 ) -> Result<(), NoMemory>
-    requires { IsArgument (frame_of around.now) (at_of around.now) arg.now }
+    requires { IsArgument (env_of around.now) (expr_context around.now) arg.now }
 {
     match arg {
-        ArgCore::Value(mode, e) => {
+        TypedArg::Value(mode, e) => {
             let value = operand(alloc, around, draft, e)?;
             pass_value(passed, *mode, value.var)
         }
-        ArgCore::Variable(mode, var) => {
+        TypedArg::Variable(mode, var) => {
             pass_variable(around, draft, reached, passed, *mode, *var)
         }
-        ArgCore::Left => pass_open(passed),
+        TypedArg::Open => pass_open(passed),
     }
 }
 
 /// The variable that holds the next argument, where it has been evaluated before.
-fn evaluated_before(before: &[Option<u32>], passed: &Passed) -> Option<u32> {
+fn evaluated_before(before: &[Option<u32>], passed: &LoweredArgs) -> Option<u32> {
     match before.get(passed.args.len()) {
         Some(value) => *value,
         None => None,
@@ -73,11 +73,11 @@ fn evaluated_before(before: &[Option<u32>], passed: &Passed) -> Option<u32> {
 #[cycle(place)]
 pub(crate) fn once_arguments(
     alloc: Global,
-    around: &Around<'_>,
-    draft: &mut Draft,
-    args: &[ArgCore],
+    around: &ExprContext<'_>,
+    draft: &mut ProgramBuilder,
+    args: &[TypedArg],
 ) -> Result<Items<Option<u32>>, NoMemory>
-    requires { All (IsArgument (frame_of around.now) (at_of around.now)) args.now }
+    requires { All (IsArgument (env_of around.now) (expr_context around.now)) args.now }
 {
     let mut values = Items::new(alloc);
     for arg in args {
@@ -90,14 +90,14 @@ pub(crate) fn once_arguments(
 #[cycle(place)]
 fn once_argument(
     alloc: Global,
-    around: &Around<'_>,
-    draft: &mut Draft,
-    arg: &ArgCore,
+    around: &ExprContext<'_>,
+    draft: &mut ProgramBuilder,
+    arg: &TypedArg,
 ) -> Result<Option<u32>, NoMemory>
-    requires { IsArgument (frame_of around.now) (at_of around.now) arg.now }
+    requires { IsArgument (env_of around.now) (expr_context around.now) arg.now }
 {
     match arg {
-        ArgCore::Value(Mode::Once, e) => {
+        TypedArg::Value(Mode::Once, e) => {
             let value = operand(alloc, around, draft, e)?;
             Ok(Some(value.var))
         }
@@ -106,6 +106,6 @@ fn once_argument(
 }
 
 /// Whether an argument is evaluated at a start alone.
-pub(crate) fn is_once(arg: &ArgCore) -> bool {
-    matches!(arg, ArgCore::Value(Mode::Once, _))
+pub(crate) fn is_once(arg: &TypedArg) -> bool {
+    matches!(arg, TypedArg::Value(Mode::Once, _))
 }

@@ -2,30 +2,30 @@
 //! bind of a signature is widened where the implementation that the receiver chooses takes it at an abstract type, so that a
 //! call of the bound value finds it as it has to be.
 
-ghost use Rattle.sa_lower_expr.specs.Around.{IsThere, frame_of};
+ghost use Rattle.sa_lower_expr.specs.ExprContext.{IsThere, env_of};
 
-use crate::around::Around;
 use crate::call::{Invocation, plan_of};
-use crate::passing::Passed;
-use crate::taken::{immutable_parameter, takes_abstract};
-use sa_core::ImplCore;
-use sa_flat::{Fail, FlatArg, FlatStep};
-use sa_lower_draft::{Draft, OpenBody};
-use sa_tree::NoMemory;
-use sa_well::{Reached, View};
+use crate::context::ExprContext;
+use crate::parameters::{immutable_parameter, takes_abstract};
+use crate::passing::LoweredArgs;
+use sa_ast::NoMemory;
+use sa_cfg::{CallOperand, CfgOperation, FaultExit};
+use sa_cfg_builder::{BodyBuilder, ProgramBuilder};
+use sa_typed::TypedImplementation;
+use sa_typing::{ResolvedCallee, TypingView};
 use sqlite_items::Items;
 use std::alloc::Global;
 
 /// A bound value of the type with the number `ty`.
 pub(crate) fn bind(
     alloc: Global,
-    around: &Around<'_>,
-    draft: &mut Draft,
+    around: &ExprContext<'_>,
+    draft: &mut ProgramBuilder,
     invocation: Invocation,
-    passed: Passed,
+    passed: LoweredArgs,
     ty: u32,
 ) -> Result<u32, NoMemory>
-    requires { IsThere (frame_of around.now).rows invocation.reached }
+    requires { IsThere (env_of around.now).rows invocation.reached }
 {
     let args = kept(alloc, around, draft, invocation, passed.args)?;
     let value = draft.body.temporary()?;
@@ -37,18 +37,18 @@ pub(crate) fn bind(
 /// The arguments as the bound value keeps them. Only a bind of a signature widens.
 fn kept(
     alloc: Global,
-    around: &Around<'_>,
-    draft: &mut Draft,
+    around: &ExprContext<'_>,
+    draft: &mut ProgramBuilder,
     invocation: Invocation,
-    args: Items<FlatArg>,
-) -> Result<Items<FlatArg>, NoMemory>
-    requires { IsThere (frame_of around.now).rows invocation.reached }
+    args: Items<CallOperand>,
+) -> Result<Items<CallOperand>, NoMemory>
+    requires { IsThere (env_of around.now).rows invocation.reached }
 {
-    let Reached::Signature(signature) = invocation.reached else {
+    let ResolvedCallee::Signature(signature) = invocation.reached else {
         return Ok(args);
     };
     let view = &around.scope.view;
-    let chosen = Chosen {
+    let chosen = SignatureBind {
         view,
         signature: invocation.reached,
         implementations: view.signatures[signature as usize].impls.as_slice(),
@@ -60,25 +60,25 @@ fn kept(
 
 /// A bind of a signature, whose implementation the receiver chooses, and where its faults go.
 #[derive(Clone, Copy)]
-struct Chosen<'a> {
-    view: &'a View<'a>,
-    signature: Reached,
-    implementations: &'a [ImplCore],
+struct SignatureBind<'a> {
+    view: &'a TypingView<'a>,
+    signature: ResolvedCallee,
+    implementations: &'a [TypedImplementation],
     recv: u32,
-    fail: Fail,
+    fail: FaultExit,
 }
 
 /// The arguments as they are kept for what the receiver chooses.
 fn kept_for(
     alloc: Global,
-    draft: &mut Draft,
-    chosen: Chosen<'_>,
-    args: &[FlatArg],
-) -> Result<Items<FlatArg>, NoMemory> {
+    draft: &mut ProgramBuilder,
+    chosen: SignatureBind<'_>,
+    args: &[CallOperand],
+) -> Result<Items<CallOperand>, NoMemory> {
     let mut kept = Items::new(alloc);
     for (place, arg) in args.iter().enumerate() {
         let var = kept_value(alloc, draft, chosen, place, arg.var)?;
-        kept.push(FlatArg {
+        kept.push(CallOperand {
             mode: arg.mode,
             var,
         })?;
@@ -89,8 +89,8 @@ fn kept_for(
 /// The variable that holds what is kept of an argument, if it is given.
 fn kept_value(
     alloc: Global,
-    draft: &mut Draft,
-    chosen: Chosen<'_>,
+    draft: &mut ProgramBuilder,
+    chosen: SignatureBind<'_>,
     place: usize,
     given: Option<u32>,
 ) -> Result<Option<u32>, NoMemory> {
@@ -108,7 +108,7 @@ fn kept_value(
 }
 
 /// The types, rising, whose implementations take the argument at this place at an abstract type.
-fn takers(alloc: Global, chosen: Chosen<'_>, place: usize) -> Result<Items<u32>, NoMemory> {
+fn takers(alloc: Global, chosen: SignatureBind<'_>, place: usize) -> Result<Items<u32>, NoMemory> {
     let mut types = Items::new(alloc);
     for implementation in chosen.implementations {
         if takes_abstract(chosen.view, implementation, place) {
@@ -120,14 +120,14 @@ fn takers(alloc: Global, chosen: Chosen<'_>, place: usize) -> Result<Items<u32>,
 
 /// A value of the immutable class `ty`, widened where the receiver is of one of the types.
 fn widened_for(
-    body: &mut OpenBody,
-    chosen: Chosen<'_>,
+    body: &mut BodyBuilder,
+    chosen: SignatureBind<'_>,
     from: u32,
     ty: u32,
     types: Items<u32>,
 ) -> Result<u32, NoMemory> {
     let to = body.temporary()?;
-    body.step(FlatStep::WidenFor {
+    body.step(CfgOperation::BoxFor {
         to,
         from,
         ty,

@@ -1,26 +1,26 @@
 //! The step of a call: what it calls, of which class, and whether it gives a value.
 
 ghost use Rattle.std.specs.Prelude.{◌≡◌, IfOk};
-ghost use Rattle.sa_lower_expr.specs.Around.{IsResult, frame_of};
+ghost use Rattle.sa_lower_expr.specs.ExprContext.{IsResult, env_of};
 ghost use Rattle.sa_lower_expr.specs.Typed.{IsPlain};
-ghost use Rattle.sa_well.specs.Rows.{rows};
+ghost use Rattle.sa_typing.specs.Rows.{rows};
 
-use crate::around::Around;
+use crate::callees::{callee, type_of};
+use crate::context::ExprContext;
 use crate::copies::copy_back;
-use crate::passing::{Passed, pass_value};
-use crate::placed::{Operand, Placed};
-use crate::reached::{callee, type_of};
-use sa_flat::{CallPlan, FlatArg, FlatStep};
-use sa_lower_draft::{Draft, OpenBody, Tables};
-use sa_tree::{Mode, NoMemory, Pos};
-use sa_well::{Given, Reached, View, result_type};
+use crate::lowered::{LoweredExpr, Operand};
+use crate::passing::{LoweredArgs, pass_value};
+use sa_ast::{Mode, NoMemory, Pos};
+use sa_cfg::{CallOperand, CallOperation, CfgOperation};
+use sa_cfg_builder::{BodyBuilder, ProgramBuilder, Tables};
+use sa_typing::{ExprType, ResolvedCallee, TypingView, result_type};
 use sqlite_items::Items;
 use std::alloc::Global;
 
 /// What is called, the variable that holds its receiver, and the position of the call.
 #[derive(Clone, Copy)]
 pub(crate) struct Invocation {
-    pub reached: Reached,
+    pub reached: ResolvedCallee,
     /// The number of the type whose feature is called. Of a bound value it isn't read.
     pub class: u32,
     pub recv: u32,
@@ -29,14 +29,14 @@ pub(crate) struct Invocation {
 
 impl Invocation {
     /// What is called, on this receiver, at this position.
-    pub fn on(reached: Reached, recv: Operand, pos: Pos) -> Invocation
+    pub fn on(reached: ResolvedCallee, recv: Operand, pos: Pos) -> Invocation
         requires { IsPlain recv.given }
         ensures { result.reached ≡ reached }
     {
         let class = match reached {
-            Reached::Target(_, class) => class,
-            Reached::Signature(_) => type_of(recv.given),
-            Reached::Bound(_) => 0,
+            ResolvedCallee::Target(_, class) => class,
+            ResolvedCallee::Signature(_) => type_of(recv.given),
+            ResolvedCallee::Bound(_) => 0,
         };
         Invocation {
             reached,
@@ -49,31 +49,31 @@ impl Invocation {
 
 /// A call with the copies back behind it.
 pub(crate) fn call(
-    around: &Around<'_>,
-    draft: &mut Draft,
+    around: &ExprContext<'_>,
+    draft: &mut ProgramBuilder,
     invocation: Invocation,
-    passed: Passed,
-) -> Result<Placed, NoMemory>
-    ensures { IfOk result (IsResult (frame_of around.now).rows invocation.reached) }
+    passed: LoweredArgs,
+) -> Result<LoweredExpr, NoMemory>
+    ensures { IfOk result (IsResult (env_of around.now).rows invocation.reached) }
 {
     let placed = result_of_call(&around.scope.view, &mut draft.body, invocation.reached)?;
     let plan = plan_of(around, &draft.tables, invocation, passed.args, placed.var)?;
     let fail = plan.fail;
-    draft.body.step(FlatStep::Call { plan })?;
+    draft.body.step(CfgOperation::Call { plan })?;
     copy_back(&mut draft.body, passed.copies.as_slice(), fail)?;
     Ok(placed)
 }
 
 /// What is called, with which variables, and where its faults and raises go.
 pub(crate) fn plan_of(
-    around: &Around<'_>,
+    around: &ExprContext<'_>,
     tables: &Tables,
     invocation: Invocation,
-    args: Items<FlatArg>,
+    args: Items<CallOperand>,
     value: Option<u32>,
-) -> Result<CallPlan, NoMemory> {
+) -> Result<CallOperation, NoMemory> {
     let fail = tables.fail(invocation.pos, around.inside.raised)?;
-    Ok(CallPlan {
+    Ok(CallOperation {
         callee: callee(invocation.reached),
         class: invocation.class,
         recv: invocation.recv,
@@ -84,25 +84,25 @@ pub(crate) fn plan_of(
 }
 
 /// One value as the only argument.
-pub(crate) fn one_passed(alloc: Global, value: u32) -> Result<Passed, NoMemory> {
-    let mut passed = Passed::of_values(alloc);
+pub(crate) fn one_passed(alloc: Global, value: u32) -> Result<LoweredArgs, NoMemory> {
+    let mut passed = LoweredArgs::of_values(alloc);
     pass_value(&mut passed, Mode::In, value)?;
     Ok(passed)
 }
 
 /// What a call gives, and a temporary for it, where it gives a value.
 pub(crate) fn result_of_call(
-    view: &View<'_>,
-    body: &mut OpenBody,
-    reached: Reached,
-) -> Result<Placed, NoMemory>
+    view: &TypingView<'_>,
+    body: &mut BodyBuilder,
+    reached: ResolvedCallee,
+) -> Result<LoweredExpr, NoMemory>
     ensures { IfOk result (IsResult (rows view.now) reached) }
 {
-    let given = Given::of_result(result_type(view, reached));
+    let given = ExprType::of_result(result_type(view, reached));
     if !given.is_value() {
-        return Ok(Placed { var: None, given });
+        return Ok(LoweredExpr { var: None, given });
     }
-    Ok(Placed {
+    Ok(LoweredExpr {
         var: Some(body.temporary()?),
         given,
     })

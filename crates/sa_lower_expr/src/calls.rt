@@ -1,46 +1,46 @@
 //! The forms of calls: of routines, of iters, of comparisons with swapped operands, and binds.
 
 ghost use Rattle.std.specs.Prelude.{IfOk};
-ghost use Rattle.sa_lower_expr.specs.Around.{IsPlaced, at_of, frame_of};
+ghost use Rattle.sa_lower_expr.specs.ExprContext.{IsLowered, expr_context, env_of};
 ghost use Rattle.sa_lower_expr.specs.Kinds.{IsCall};
 ghost use Rattle.sa_lower_expr.specs.Typed.{IsTyped};
 
 use crate::arguments::{arguments, once_arguments};
-use crate::around::Around;
 use crate::binds::bind;
 use crate::call::{Invocation, call, one_passed};
+use crate::callees::{reached_on, type_of};
+use crate::context::ExprContext;
 use crate::expr::operand;
-use crate::placed::{Placed, value};
-use crate::reached::{reached_on, type_of};
+use crate::lowered::{LoweredExpr, value};
 use crate::sites::{begin_others, begin_site, end_site};
-use sa_core::ExprCore;
-use sa_lower_draft::Draft;
-use sa_tree::NoMemory;
-use sa_well::{Given, Reached};
+use sa_ast::NoMemory;
+use sa_cfg_builder::ProgramBuilder;
+use sa_typed::TypedExpr;
+use sa_typing::{ExprType, ResolvedCallee};
 use std::alloc::Global;
 
 /// Places a call, a call of an iter, a bind, or a comparison that is called on its second operand.
 #[tactic(auto, using(crate::proofs::Parts::receivers, crate::proofs::Forms::calls))]
 #[cycle(place)]
-pub(crate) fn place_call(
+pub(crate) fn lower_call(
     alloc: Global,
-    around: &Around<'_>,
-    draft: &mut Draft,
-    e: &ExprCore,
-) -> Result<Placed, NoMemory>
+    around: &ExprContext<'_>,
+    draft: &mut ProgramBuilder,
+    e: &TypedExpr,
+) -> Result<LoweredExpr, NoMemory>
     requires form { IsCall e.now }
-    requires typed { IsTyped (frame_of around.now) (at_of around.now) e.now }
-    ensures { IfOk result (IsPlaced around.now e.now) }
+    requires typed { IsTyped (env_of around.now) (expr_context around.now) e.now }
+    ensures { IfOk result (IsLowered around.now e.now) }
 {
     match e {
-        ExprCore::Call(called, on, args, pos) => {
+        TypedExpr::Call(called, on, args, pos) => {
             let recv = operand(alloc, around, draft, on.get())?;
             let invocation = Invocation::on(reached_on(*called, recv.given), recv, *pos);
             let args = args.as_slice();
             let args = arguments(alloc, around, draft, invocation.reached, args, &[])?;
             call(around, draft, invocation, args)
         }
-        ExprCore::IterCall(number, on, args, pos) => {
+        TypedExpr::IterCall(number, on, args, pos) => {
             let called = around.scope.sites[*number as usize].called;
             let args = args.as_slice();
             let site = begin_site(alloc, &mut draft.body, *number, args)?;
@@ -52,20 +52,20 @@ pub(crate) fn place_call(
             let args = arguments(alloc, around, draft, invocation.reached, args, once)?;
             end_site(alloc, around, draft, site, invocation, args)
         }
-        ExprCore::Bind(called, on, args, ty, pos) => {
+        TypedExpr::Bind(called, on, args, ty, pos) => {
             let recv = operand(alloc, around, draft, on.get())?;
             let invocation = Invocation::on(reached_on(*called, recv.given), recv, *pos);
             let args = args.as_slice();
             let args = arguments(alloc, around, draft, invocation.reached, args, &[])?;
             value(
                 bind(alloc, around, draft, invocation, args, *ty),
-                Given::Plain(*ty),
+                ExprType::Of(*ty),
             )
         }
-        ExprCore::Swapped(target, first, second, pos) => {
+        TypedExpr::Reversed(target, first, second, pos) => {
             let first = operand(alloc, around, draft, first.get())?;
             let second = operand(alloc, around, draft, second.get())?;
-            let reached = Reached::Target(*target, type_of(second.given));
+            let reached = ResolvedCallee::Target(*target, type_of(second.given));
             let passed = one_passed(alloc, first.var)?;
             call(around, draft, Invocation::on(reached, second, *pos), passed)
         }

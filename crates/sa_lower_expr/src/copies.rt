@@ -1,13 +1,13 @@
 //! Copies back that are steps of their own behind a call.
 
 use crate::simple::widen;
-use sa_flat::Fail;
-use sa_lower_draft::OpenBody;
-use sa_tree::NoMemory;
+use sa_ast::NoMemory;
+use sa_cfg::FaultExit;
+use sa_cfg_builder::BodyBuilder;
 
 /// A copy back of what a call leaves in a temporary.
 #[derive(Clone, Copy)]
-pub(crate) struct CopyBack {
+pub(crate) struct OutCopy {
     /// The variable that gets it.
     pub to: u32,
     pub from: u32,
@@ -17,9 +17,9 @@ pub(crate) struct CopyBack {
 
 /// Makes the copies in their order. A widening that finds no room fails at the call.
 pub(crate) fn copy_back(
-    body: &mut OpenBody,
-    copies: &[CopyBack],
-    fail: Fail,
+    body: &mut BodyBuilder,
+    copies: &[OutCopy],
+    fail: FaultExit,
 ) -> Result<(), NoMemory> {
     for copy in copies {
         make_copy(body, *copy, fail)?;
@@ -27,8 +27,8 @@ pub(crate) fn copy_back(
     Ok(())
 }
 
-fn make_copy(body: &mut OpenBody, copy: CopyBack, fail: Fail) -> Result<(), NoMemory> {
-    let CopyBack { to, from, widened } = copy;
+fn make_copy(body: &mut BodyBuilder, copy: OutCopy, fail: FaultExit) -> Result<(), NoMemory> {
+    let OutCopy { to, from, widened } = copy;
     match widened {
         Some(ty) => widen(body, to, from, ty, fail),
         None => body.move_to(to, from),

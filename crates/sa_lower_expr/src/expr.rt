@@ -1,21 +1,21 @@
 //! An expression as steps and blocks: what stands inside it is placed first, from left to right.
 
 ghost use Rattle.std.specs.Prelude.{◌≡◌, All, IfOk, is_some};
-ghost use Rattle.sa_lower_draft.specs.Places.{place_of};
-ghost use Rattle.sa_lower_expr.specs.Around.{IsPlaced, at_of, frame_of};
+ghost use Rattle.sa_cfg_builder.specs.Contexts.{context_of};
+ghost use Rattle.sa_lower_expr.specs.ExprContext.{IsLowered, expr_context, env_of};
 ghost use Rattle.sa_lower_expr.specs.Typed.{Gives, HasValue, IsTyped, gives_value};
-ghost use Rattle.sa_well.specs.Places.{frame};
+ghost use Rattle.sa_typing.specs.Contexts.{env};
 
-use crate::around::{Around, Owner};
-use crate::calls::place_call;
+use crate::calls::lower_call;
+use crate::context::{ExprContext, Owner};
+use crate::effects::variables_in;
 use crate::logic::{Connective, begin_right, joined};
-use crate::placed::{Operand, Placed, value};
+use crate::lowered::{LoweredExpr, Operand, value};
 use crate::simple::{array, leaf, new_array, void_test, widened};
-use crate::writing::variables_in;
-use sa_core::ExprCore;
-use sa_lower_draft::{Draft, Inside};
-use sa_tree::NoMemory;
-use sa_well::{BOOL, Given, Scope};
+use sa_ast::NoMemory;
+use sa_cfg_builder::{LoweringContext, ProgramBuilder};
+use sa_typed::TypedExpr;
+use sa_typing::{BOOL, ExprType, TypingEnv};
 use sqlite_items::Items;
 use std::alloc::Global;
 
@@ -27,91 +27,91 @@ use std::alloc::Global;
 ///
 /// `NoMemory`.
 #[tactic(auto, using(crate::proofs::Forms::placed))]
-pub fn place_expr(
+pub fn lower_expr(
     alloc: Global,
-    scope: &Scope<'_>,
+    scope: &TypingEnv<'_>,
     owner: Owner,
-    inside: &Inside,
-    draft: &mut Draft,
-    e: &ExprCore,
+    inside: &LoweringContext,
+    draft: &mut ProgramBuilder,
+    e: &TypedExpr,
 ) -> Result<Option<u32>, NoMemory>
-    requires { IsTyped (frame scope.now) (place_of inside.now) e.now }
-    ensures { IfOk result (λ var. is_some var ≡ gives_value (frame scope.now) (place_of inside.now) e.now) }
+    requires { IsTyped (env scope.now) (context_of inside.now) e.now }
+    ensures { IfOk result (λ var. is_some var ≡ gives_value (env scope.now) (context_of inside.now) e.now) }
 {
-    let around = Around {
+    let around = ExprContext {
         scope,
         owner,
         inside,
         variables: variables_in(e),
     };
     draft.body.statement(inside);
-    let placed = place(alloc, &around, draft, e)?;
+    let placed = lower(alloc, &around, draft, e)?;
     Ok(placed.var)
 }
 
 /// Places an expression.
 #[tactic(auto, using(crate::proofs::Parts::parts, crate::proofs::Forms::forms))]
 #[cycle(place)]
-fn place(
+fn lower(
     alloc: Global,
-    around: &Around<'_>,
-    draft: &mut Draft,
-    e: &ExprCore,
-) -> Result<Placed, NoMemory>
-    requires { IsTyped (frame_of around.now) (at_of around.now) e.now }
-    ensures { IfOk result (IsPlaced around.now e.now) }
+    around: &ExprContext<'_>,
+    draft: &mut ProgramBuilder,
+    e: &TypedExpr,
+) -> Result<LoweredExpr, NoMemory>
+    requires { IsTyped (env_of around.now) (expr_context around.now) e.now }
+    ensures { IfOk result (IsLowered around.now e.now) }
 {
     match e {
-        ExprCore::IsVoid(of) => {
+        TypedExpr::IsVoid(of) => {
             let of = operand(alloc, around, draft, of.get())?;
-            value(void_test(&mut draft.body, of.var), Given::Plain(BOOL))
+            value(void_test(&mut draft.body, of.var), ExprType::Of(BOOL))
         }
-        ExprCore::NewArray(ty, count, pos) => {
+        TypedExpr::NewArray(ty, count, pos) => {
             let count = operand(alloc, around, draft, count.get())?;
             let array = new_array(around, draft, *ty, count.var, *pos);
-            value(array, Given::Plain(*ty))
+            value(array, ExprType::Of(*ty))
         }
-        ExprCore::Widen(ty, of, pos) => {
+        TypedExpr::Box(ty, of, pos) => {
             let of = operand(alloc, around, draft, of.get())?;
             let widened = widened(around, draft, *ty, of.var, *pos);
-            value(widened, Given::Widened(*ty))
+            value(widened, ExprType::BoxedOf(*ty))
         }
-        ExprCore::Items(ty, elements, pos) => {
+        TypedExpr::Array(ty, elements, pos) => {
             let elements = operands(alloc, around, draft, elements.as_slice())?;
             let array = array(around, draft, *ty, elements.as_slice(), *pos);
-            value(array, Given::Plain(*ty))
+            value(array, ExprType::Of(*ty))
         }
-        ExprCore::And(left, right) => {
+        TypedExpr::And(left, right) => {
             let left = operand(alloc, around, draft, left.get())?;
             let joint = begin_right(alloc, &mut draft.body, Connective::And, left.var)?;
             let right = operand(alloc, around, draft, right.get())?;
             value(
                 joined(alloc, &mut draft.body, joint, right.var),
-                Given::Plain(BOOL),
+                ExprType::Of(BOOL),
             )
         }
-        ExprCore::Or(left, right) => {
+        TypedExpr::Or(left, right) => {
             let left = operand(alloc, around, draft, left.get())?;
             let joint = begin_right(alloc, &mut draft.body, Connective::Or, left.var)?;
             let right = operand(alloc, around, draft, right.get())?;
             value(
                 joined(alloc, &mut draft.body, joint, right.var),
-                Given::Plain(BOOL),
+                ExprType::Of(BOOL),
             )
         }
-        ExprCore::Call(_, _, _, _)
-        | ExprCore::IterCall(_, _, _, _)
-        | ExprCore::Bind(_, _, _, _, _)
-        | ExprCore::Swapped(_, _, _, _) => place_call(alloc, around, draft, e),
-        ExprCore::Int(_)
-        | ExprCore::Bool(_)
-        | ExprCore::Char(_)
-        | ExprCore::Text(_)
-        | ExprCore::VoidOf(_)
-        | ExprCore::Me
-        | ExprCore::Var(_)
-        | ExprCore::Exception
-        | ExprCore::New(_, _) => leaf(alloc, around, draft, e),
+        TypedExpr::Call(_, _, _, _)
+        | TypedExpr::IterCall(_, _, _, _)
+        | TypedExpr::Bind(_, _, _, _, _)
+        | TypedExpr::Reversed(_, _, _, _) => lower_call(alloc, around, draft, e),
+        TypedExpr::Int(_)
+        | TypedExpr::Bool(_)
+        | TypedExpr::Char(_)
+        | TypedExpr::Text(_)
+        | TypedExpr::VoidValue(_)
+        | TypedExpr::SelfRef
+        | TypedExpr::Var(_)
+        | TypedExpr::Exception
+        | TypedExpr::New(_, _) => leaf(alloc, around, draft, e),
     }
 }
 
@@ -120,14 +120,14 @@ fn place(
 #[cycle(place)]
 pub(crate) fn operand(
     alloc: Global,
-    around: &Around<'_>,
-    draft: &mut Draft,
-    e: &ExprCore,
+    around: &ExprContext<'_>,
+    draft: &mut ProgramBuilder,
+    e: &TypedExpr,
 ) -> Result<Operand, NoMemory>
-    requires { HasValue (frame_of around.now) (at_of around.now) e.now }
-    ensures { IfOk result (λ operand. Gives (frame_of around.now) (at_of around.now) e.now operand.given) }
+    requires { HasValue (env_of around.now) (expr_context around.now) e.now }
+    ensures { IfOk result (λ operand. Gives (env_of around.now) (expr_context around.now) e.now operand.given) }
 {
-    let placed = place(alloc, around, draft, e)?;
+    let placed = lower(alloc, around, draft, e)?;
     match placed.var {
         Some(var) => Ok(Operand {
             var,
@@ -141,11 +141,11 @@ pub(crate) fn operand(
 #[cycle(place)]
 fn operands(
     alloc: Global,
-    around: &Around<'_>,
-    draft: &mut Draft,
-    list: &[ExprCore],
+    around: &ExprContext<'_>,
+    draft: &mut ProgramBuilder,
+    list: &[TypedExpr],
 ) -> Result<Items<u32>, NoMemory>
-    requires { All (HasValue (frame_of around.now) (at_of around.now)) list.now }
+    requires { All (HasValue (env_of around.now) (expr_context around.now)) list.now }
 {
     let mut values = Items::new(alloc);
     for e in list {

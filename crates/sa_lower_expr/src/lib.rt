@@ -2,22 +2,22 @@
 #![tactic(auto)]
 
 mod arguments;
-mod around;
 mod binds;
 mod call;
+mod callees;
 mod calls;
+mod context;
 mod copies;
+mod effects;
 mod expr;
 mod logic;
+mod lowered;
+mod parameters;
 mod passing;
-mod placed;
-mod reached;
 mod simple;
 mod sites;
-mod taken;
-mod writing;
 
-pub use around::Owner;
-pub use expr::place_expr;
-pub use reached::callee_of;
-pub use taken::takes_abstract;
+pub use callees::callee_of;
+pub use context::Owner;
+pub use expr::lower_expr;
+pub use parameters::takes_abstract;

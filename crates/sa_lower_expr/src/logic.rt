@@ -1,8 +1,8 @@
 //! `and` and `or`: the right operand is evaluated only where the left one doesn't decide.
 
-use sa_flat::{FlatConst, FlatExit, FlatStep};
-use sa_lower_draft::OpenBody;
-use sa_tree::NoMemory;
+use sa_ast::NoMemory;
+use sa_cfg::{CfgOperation, Constant, Terminator};
+use sa_cfg_builder::BodyBuilder;
 use std::alloc::Global;
 
 /// What joins two operands.
@@ -24,7 +24,7 @@ impl Connective {
 
 /// What joins the operands, the variable that gets the value, and the block in which the left operand has decided it.
 #[derive(Clone, Copy)]
-pub(crate) struct Joint {
+pub(crate) struct ShortCircuitJoin {
     connective: Connective,
     to: u32,
     decided: u32,
@@ -33,11 +33,11 @@ pub(crate) struct Joint {
 /// Opens the block in which the right operand is evaluated.
 pub(crate) fn begin_right(
     alloc: Global,
-    body: &mut OpenBody,
+    body: &mut BodyBuilder,
     connective: Connective,
     left: u32,
-) -> Result<Joint, NoMemory> {
-    let joint = Joint {
+) -> Result<ShortCircuitJoin, NoMemory> {
+    let joint = ShortCircuitJoin {
         connective,
         to: body.temporary()?,
         decided: body.block(alloc)?,
@@ -48,14 +48,14 @@ pub(crate) fn begin_right(
 }
 
 /// Where it goes on behind the left operand.
-fn decision(joint: Joint, left: u32, right: u32) -> FlatExit {
+fn decision(joint: ShortCircuitJoin, left: u32, right: u32) -> Terminator {
     match joint.connective {
-        Connective::And => FlatExit::Branch {
+        Connective::And => Terminator::Branch {
             test: left,
             yes: right,
             no: joint.decided,
         },
-        Connective::Or => FlatExit::Branch {
+        Connective::Or => Terminator::Branch {
             test: left,
             yes: joint.decided,
             no: right,
@@ -66,19 +66,19 @@ fn decision(joint: Joint, left: u32, right: u32) -> FlatExit {
 /// Joins the two ways to the value: the right operand, or the left one where it was enough.
 pub(crate) fn joined(
     alloc: Global,
-    body: &mut OpenBody,
-    joint: Joint,
+    body: &mut BodyBuilder,
+    joint: ShortCircuitJoin,
     right: u32,
 ) -> Result<u32, NoMemory> {
     let to = joint.to;
     let decided = joint.connective.deciding();
-    let behind = body.block(alloc)?;
+    let following = body.block(alloc)?;
     body.move_to(to, right)?;
-    body.end(alloc, FlatExit::Jump(behind), joint.decided)?;
-    body.step(FlatStep::Const {
+    body.end(alloc, Terminator::Jump(following), joint.decided)?;
+    body.step(CfgOperation::Const {
         to,
-        value: FlatConst::Bool(decided),
+        value: Constant::Bool(decided),
     })?;
-    body.end(alloc, FlatExit::Jump(behind), behind)?;
+    body.end(alloc, Terminator::Jump(following), following)?;
     Ok(to)
 }

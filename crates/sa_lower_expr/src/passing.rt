@@ -6,33 +6,33 @@
 //!
 //! From the first such argument on each written one is passed in a temporary, so that copies back stay in their order.
 
-use crate::around::{Around, Variables};
-use crate::copies::CopyBack;
+use crate::context::{Effects, ExprContext};
+use crate::copies::OutCopy;
+use crate::effects::written_up_to;
+use crate::parameters::immutable_parameter;
 use crate::simple::copied;
-use crate::taken::immutable_parameter;
-use crate::writing::written_up_to;
-use sa_core::ArgCore;
-use sa_flat::FlatArg;
-use sa_lower_draft::{Draft, OpenBody};
-use sa_tree::{Mode, NoMemory};
-use sa_well::Reached;
+use sa_ast::{Mode, NoMemory};
+use sa_cfg::CallOperand;
+use sa_cfg_builder::{BodyBuilder, ProgramBuilder};
+use sa_typed::TypedArg;
+use sa_typing::ResolvedCallee;
 use sqlite_items::Items;
 use std::alloc::Global;
 
 /// The arguments of a call so far.
 #[derive(Drop)]
-pub(crate) struct Passed {
-    pub args: Items<FlatArg>,
+pub(crate) struct LoweredArgs {
+    pub args: Items<CallOperand>,
     /// What has to be done behind the call, in this order.
-    pub copies: Items<CopyBack>,
+    pub copies: Items<OutCopy>,
     /// The place of the first argument from which on the written ones are passed in temporaries.
     temporaries_from: usize,
 }
 
-impl Passed {
+impl LoweredArgs {
     /// No arguments so far, of a call that writes none.
-    pub fn of_values(alloc: Global) -> Passed {
-        Passed {
+    pub fn of_values(alloc: Global) -> LoweredArgs {
+        LoweredArgs {
             args: Items::new(alloc),
             copies: Items::new(alloc),
             temporaries_from: 0,
@@ -43,11 +43,11 @@ impl Passed {
 /// No arguments so far, of a call that will have these.
 pub(crate) fn none_passed(
     alloc: Global,
-    around: &Around<'_>,
-    reached: Reached,
-    args: &[ArgCore],
-) -> Passed {
-    Passed {
+    around: &ExprContext<'_>,
+    reached: ResolvedCallee,
+    args: &[TypedArg],
+) -> LoweredArgs {
+    LoweredArgs {
         args: Items::new(alloc),
         copies: Items::new(alloc),
         temporaries_from: temporaries_from(around, reached, args),
@@ -55,8 +55,8 @@ pub(crate) fn none_passed(
 }
 
 /// The place of the first argument from which on the written ones are passed in temporaries, or the number of arguments.
-fn temporaries_from(around: &Around<'_>, reached: Reached, args: &[ArgCore]) -> usize {
-    if around.variables == Variables::Kept {
+fn temporaries_from(around: &ExprContext<'_>, reached: ResolvedCallee, args: &[TypedArg]) -> usize {
+    if around.variables == Effects::Pure {
         return args.len();
     }
     let written = written_up_to(args);
@@ -71,22 +71,27 @@ fn temporaries_from(around: &Around<'_>, reached: Reached, args: &[ArgCore]) -> 
 /// Whether an argument can't be passed as the variable that it names. The evaluation of the first `written` arguments
 /// writes variables.
 fn needs_temporary(
-    around: &Around<'_>,
-    reached: Reached,
+    around: &ExprContext<'_>,
+    reached: ResolvedCallee,
     place: usize,
-    arg: &ArgCore,
+    arg: &TypedArg,
     written: usize,
 ) -> bool {
     match arg {
-        ArgCore::Variable(Mode::Out, var) => widening(around, reached, place, *var).is_some(),
-        ArgCore::Variable(_, _) => place < written,
-        ArgCore::Value(_, _) => false,
-        ArgCore::Left => false,
+        TypedArg::Variable(Mode::Out, var) => widening(around, reached, place, *var).is_some(),
+        TypedArg::Variable(_, _) => place < written,
+        TypedArg::Value(_, _) => false,
+        TypedArg::Open => false,
     }
 }
 
 /// The number of the immutable type from which what an `out` argument gives is widened into its variable, if it is.
-fn widening(around: &Around<'_>, reached: Reached, place: usize, var: u32) -> Option<u32> {
+fn widening(
+    around: &ExprContext<'_>,
+    reached: ResolvedCallee,
+    place: usize,
+    var: u32,
+) -> Option<u32> {
     let view = &around.scope.view;
     let own = *around.scope.vars.get(var as usize)?;
     if !view.is_abstract(own) {
@@ -96,8 +101,8 @@ fn widening(around: &Around<'_>, reached: Reached, place: usize, var: u32) -> Op
 }
 
 /// Passes a value.
-pub(crate) fn pass_value(passed: &mut Passed, mode: Mode, value: u32) -> Result<(), NoMemory> {
-    passed.args.push(FlatArg {
+pub(crate) fn pass_value(passed: &mut LoweredArgs, mode: Mode, value: u32) -> Result<(), NoMemory> {
+    passed.args.push(CallOperand {
         mode,
         var: Some(value),
     })?;
@@ -105,8 +110,8 @@ pub(crate) fn pass_value(passed: &mut Passed, mode: Mode, value: u32) -> Result<
 }
 
 /// Leaves an argument of a bind open.
-pub(crate) fn pass_open(passed: &mut Passed) -> Result<(), NoMemory> {
-    passed.args.push(FlatArg {
+pub(crate) fn pass_open(passed: &mut LoweredArgs) -> Result<(), NoMemory> {
+    passed.args.push(CallOperand {
         mode: Mode::In,
         var: None,
     })?;
@@ -115,10 +120,10 @@ pub(crate) fn pass_open(passed: &mut Passed) -> Result<(), NoMemory> {
 
 /// Passes a variable that the call writes.
 pub(crate) fn pass_variable(
-    around: &Around<'_>,
-    draft: &mut Draft,
-    reached: Reached,
-    passed: &mut Passed,
+    around: &ExprContext<'_>,
+    draft: &mut ProgramBuilder,
+    reached: ResolvedCallee,
+    passed: &mut LoweredArgs,
     mode: Mode,
     var: u32,
 ) -> Result<(), NoMemory> {
@@ -136,14 +141,14 @@ pub(crate) fn pass_variable(
 
 /// An `out` argument in a temporary.
 fn out_copy(
-    around: &Around<'_>,
-    draft: &mut Draft,
-    reached: Reached,
+    around: &ExprContext<'_>,
+    draft: &mut ProgramBuilder,
+    reached: ResolvedCallee,
     place: usize,
     var: u32,
-) -> Result<CopyBack, NoMemory> {
+) -> Result<OutCopy, NoMemory> {
     let widened = widening(around, reached, place, var);
-    Ok(CopyBack {
+    Ok(OutCopy {
         to: var,
         from: draft.body.temporary()?,
         widened,
@@ -151,8 +156,8 @@ fn out_copy(
 }
 
 /// An `inout` argument in a temporary, with the value that the variable has at this place.
-fn inout_copy(body: &mut OpenBody, var: u32) -> Result<CopyBack, NoMemory> {
-    Ok(CopyBack {
+fn inout_copy(body: &mut BodyBuilder, var: u32) -> Result<OutCopy, NoMemory> {
+    Ok(OutCopy {
         to: var,
         from: copied(body, var)?,
         widened: None,

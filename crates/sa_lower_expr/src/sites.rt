@@ -4,35 +4,35 @@
 //! is asked again behind them.
 
 ghost use Rattle.std.specs.Prelude.{IfOk, IsTrue, is_some};
-ghost use Rattle.sa_lower_expr.specs.Around.{IsResult, frame_of};
+ghost use Rattle.sa_lower_expr.specs.ExprContext.{IsResult, env_of};
 
 use crate::arguments::is_once;
-use crate::around::Around;
 use crate::call::{Invocation, plan_of, result_of_call};
+use crate::context::ExprContext;
 use crate::copies::copy_back;
-use crate::passing::Passed;
-use crate::placed::Placed;
-use sa_core::ArgCore;
-use sa_flat::{CallPlan, FlatExit};
-use sa_lower_draft::{Draft, OpenBody};
-use sa_tree::NoMemory;
+use crate::lowered::LoweredExpr;
+use crate::passing::LoweredArgs;
+use sa_ast::NoMemory;
+use sa_cfg::{CallOperation, Terminator};
+use sa_cfg_builder::{BodyBuilder, ProgramBuilder};
+use sa_typed::TypedArg;
 use std::alloc::Global;
 
 /// A site whose call is being placed.
 #[derive(Clone, Copy)]
-pub(crate) struct Site {
+pub(crate) struct SiteBlocks {
     number: u32,
     /// The block in which the instance that is there is resumed.
     again: u32,
     /// The block behind the call, in which the value is there.
-    behind: u32,
+    following: u32,
     /// Where arguments are evaluated at each call.
-    others: Option<Others>,
+    others: Option<PerCallArgs>,
 }
 
 /// The blocks of a site with arguments that are evaluated at each call.
 #[derive(Clone, Copy)]
-struct Others {
+struct PerCallArgs {
     /// The block in which they are evaluated.
     joined: u32,
     /// The block behind them in which an instance is started.
@@ -43,15 +43,15 @@ struct Others {
 /// evaluated.
 pub(crate) fn begin_site(
     alloc: Global,
-    body: &mut OpenBody,
+    body: &mut BodyBuilder,
     number: u32,
-    args: &[ArgCore],
-) -> Result<Site, NoMemory> {
+    args: &[TypedArg],
+) -> Result<SiteBlocks, NoMemory> {
     let fresh = body.block(alloc)?;
-    let site = Site {
+    let site = SiteBlocks {
         number,
         again: body.block(alloc)?,
-        behind: body.block(alloc)?,
+        following: body.block(alloc)?,
         others: others_of(alloc, body, args)?,
     };
     body.test_site(alloc, number, fresh, resumed_in(site))?;
@@ -61,20 +61,20 @@ pub(crate) fn begin_site(
 /// The blocks for arguments that are evaluated at each call, where there are such arguments.
 fn others_of(
     alloc: Global,
-    body: &mut OpenBody,
-    args: &[ArgCore],
-) -> Result<Option<Others>, NoMemory> {
+    body: &mut BodyBuilder,
+    args: &[TypedArg],
+) -> Result<Option<PerCallArgs>, NoMemory> {
     if !has_others(args) {
         return Ok(None);
     }
-    Ok(Some(Others {
+    Ok(Some(PerCallArgs {
         joined: body.block(alloc)?,
         starting: body.block(alloc)?,
     }))
 }
 
 /// Whether an argument is evaluated at each call.
-fn has_others(args: &[ArgCore]) -> bool {
+fn has_others(args: &[TypedArg]) -> bool {
     for arg in args {
         if !is_once(arg) {
             return true;
@@ -84,7 +84,7 @@ fn has_others(args: &[ArgCore]) -> bool {
 }
 
 /// Where the call of a site with an instance goes on.
-fn resumed_in(site: Site) -> u32 {
+fn resumed_in(site: SiteBlocks) -> u32 {
     match site.others {
         Some(others) => others.joined,
         None => site.again,
@@ -92,25 +92,29 @@ fn resumed_in(site: Site) -> u32 {
 }
 
 /// Opens the block of the arguments that are evaluated at each call, where there are such arguments.
-pub(crate) fn begin_others(alloc: Global, body: &mut OpenBody, site: Site) -> Result<(), NoMemory> {
+pub(crate) fn begin_others(
+    alloc: Global,
+    body: &mut BodyBuilder,
+    site: SiteBlocks,
+) -> Result<(), NoMemory> {
     let Some(others) = site.others else {
         return Ok(());
     };
-    body.end(alloc, FlatExit::Jump(others.joined), others.joined)
+    body.end(alloc, Terminator::Jump(others.joined), others.joined)
 }
 
 /// Starts or resumes the instance of the site, and gives what it has yielded. Where the instance ends, the loop of the site is
 /// left, and nothing is copied back.
 pub(crate) fn end_site(
     alloc: Global,
-    around: &Around<'_>,
-    draft: &mut Draft,
-    site: Site,
+    around: &ExprContext<'_>,
+    draft: &mut ProgramBuilder,
+    site: SiteBlocks,
     invocation: Invocation,
-    passed: Passed,
-) -> Result<Placed, NoMemory>
+    passed: LoweredArgs,
+) -> Result<LoweredExpr, NoMemory>
     requires { IsTrue (is_some around.now.inside.now.innermost) }
-    ensures { IfOk result (IsResult (frame_of around.now).rows invocation.reached) }
+    ensures { IfOk result (IsResult (env_of around.now).rows invocation.reached) }
 {
     end_others(alloc, &mut draft.body, site)?;
     let placed = result_of_call(&around.scope.view, &mut draft.body, invocation.reached)?;
@@ -124,7 +128,7 @@ pub(crate) fn end_site(
 }
 
 /// Asks again whether the site has an instance, behind the arguments that are evaluated at each call.
-fn end_others(alloc: Global, body: &mut OpenBody, site: Site) -> Result<(), NoMemory> {
+fn end_others(alloc: Global, body: &mut BodyBuilder, site: SiteBlocks) -> Result<(), NoMemory> {
     let Some(others) = site.others else {
         return Ok(());
     };
@@ -135,23 +139,23 @@ fn end_others(alloc: Global, body: &mut OpenBody, site: Site) -> Result<(), NoMe
 /// `left`.
 fn start(
     alloc: Global,
-    body: &mut OpenBody,
-    site: Site,
-    plan: CallPlan,
+    body: &mut BodyBuilder,
+    site: SiteBlocks,
+    plan: CallOperation,
     left: u32,
 ) -> Result<(), NoMemory> {
     body.start(alloc, site.number, plan, left)?;
-    body.end(alloc, FlatExit::Jump(site.behind), site.again)
+    body.end(alloc, Terminator::Jump(site.following), site.again)
 }
 
 /// Resumes the instance, and opens the block behind the call. Where the instance ends it goes on in `left`.
 fn resume(
     alloc: Global,
-    body: &mut OpenBody,
-    site: Site,
-    plan: CallPlan,
+    body: &mut BodyBuilder,
+    site: SiteBlocks,
+    plan: CallOperation,
     left: u32,
 ) -> Result<(), NoMemory> {
     body.resume(alloc, site.number, plan, left)?;
-    body.end(alloc, FlatExit::Jump(site.behind), site.behind)
+    body.end(alloc, Terminator::Jump(site.following), site.following)
 }

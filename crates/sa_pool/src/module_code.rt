@@ -3,8 +3,8 @@
 
 ghost use Rattle.std.specs.Prelude.{◌≡◌, IfOk};
 
-use sa_runtime::line::Op::{self, Do, Get, I32, I64, Memory, Tee};
-use sa_runtime::line::add_line;
+use sa_runtime::template_ops::TemplateOp::{self, Do, Get, I32, I64, Memory, Tee};
+use sa_runtime::template_ops::emit_ops;
 use sqlite_items::Items;
 use std::alloc::Global;
 use wa_syntax::opcode::{I32_ADD, I32_EQ, I32_LOAD, I32_STORE, I64_STORE, RETURN};
@@ -35,7 +35,7 @@ const HEAD_BYTES: u32 = 8;
 
 /// Where a pool lies.
 #[derive(Clone, Copy)]
-struct Place {
+struct PoolAddresses {
     /// The address of the first slot of the chain.
     chain: u32,
     /// The address of how many bytes were ever taken.
@@ -78,9 +78,9 @@ pub fn code(alloc: Global, base: u32, slot_bytes: u32) -> Result<PoolCode, NoMem
 }
 
 /// Where a pool lies.
-fn place_of(base: u32, slot_bytes: u32) -> Result<Place, NoMemory> {
+fn place_of(base: u32, slot_bytes: u32) -> Result<PoolAddresses, NoMemory> {
     let first = base.checked_add(HEAD_BYTES).ok_or(NoMemory)?;
-    Ok(Place {
+    Ok(PoolAddresses {
         chain: base,
         taken: first - 4,
         first,
@@ -90,11 +90,11 @@ fn place_of(base: u32, slot_bytes: u32) -> Result<Place, NoMemory> {
 }
 
 /// The body of `take`.
-fn take(alloc: Global, place: Place) -> Result<Items<Instr>, NoMemory> {
+fn take(alloc: Global, place: PoolAddresses) -> Result<Items<Instr>, NoMemory> {
     let mut body = Items::new(alloc);
     let first_of_chain = [I32(0), Memory(I32_LOAD, place.chain), Tee(SLOT)];
-    add_line(&mut body, &first_of_chain)?;
-    add_if(alloc, &mut body, chained(alloc, place)?)?;
+    emit_ops(&mut body, &first_of_chain)?;
+    emit_if(alloc, &mut body, chained(alloc, place)?)?;
     let is_all_taken = [
         I32(0),
         Memory(I32_LOAD, place.taken),
@@ -102,8 +102,8 @@ fn take(alloc: Global, place: Place) -> Result<Items<Instr>, NoMemory> {
         I32(place.all_bytes),
         Do(I32_EQ),
     ];
-    add_line(&mut body, &is_all_taken)?;
-    add_if(alloc, &mut body, line(alloc, &[I32(0), Do(RETURN)])?)?;
+    emit_ops(&mut body, &is_all_taken)?;
+    emit_if(alloc, &mut body, line(alloc, &[I32(0), Do(RETURN)])?)?;
     let take_unused = [
         I32(0),
         Get(SLOT),
@@ -114,12 +114,12 @@ fn take(alloc: Global, place: Place) -> Result<Items<Instr>, NoMemory> {
         I32(place.first),
         Do(I32_ADD),
     ];
-    add_line(&mut body, &take_unused)?;
+    emit_ops(&mut body, &take_unused)?;
     Ok(body)
 }
 
 /// What `take` does where the chain has a slot.
-fn chained(alloc: Global, place: Place) -> Result<Items<Instr>, NoMemory> {
+fn chained(alloc: Global, place: PoolAddresses) -> Result<Items<Instr>, NoMemory> {
     let take_chained = [
         I32(0),
         Get(SLOT),
@@ -135,7 +135,7 @@ fn chained(alloc: Global, place: Place) -> Result<Items<Instr>, NoMemory> {
 }
 
 /// The body of `give`: the slot goes to the beginning of the chain.
-fn give(alloc: Global, place: Place) -> Result<Items<Instr>, NoMemory> {
+fn give(alloc: Global, place: PoolAddresses) -> Result<Items<Instr>, NoMemory> {
     let give = [
         Get(SLOT),
         I32(0),
@@ -149,14 +149,14 @@ fn give(alloc: Global, place: Place) -> Result<Items<Instr>, NoMemory> {
 }
 
 /// These instructions.
-fn line(alloc: Global, ops: &[Op]) -> Result<Items<Instr>, NoMemory> {
+fn line(alloc: Global, ops: &[TemplateOp]) -> Result<Items<Instr>, NoMemory> {
     let mut line = Items::new(alloc);
-    add_line(&mut line, ops)?;
+    emit_ops(&mut line, ops)?;
     Ok(line)
 }
 
 /// Adds what is done where the operand isn't 0.
-fn add_if(alloc: Global, to: &mut Items<Instr>, then: Items<Instr>) -> Result<(), NoMemory> {
+fn emit_if(alloc: Global, to: &mut Items<Instr>, then: Items<Instr>) -> Result<(), NoMemory> {
     to.push(Instr::if_of(alloc, None, then, Items::new(alloc))?)?;
     Ok(())
 }

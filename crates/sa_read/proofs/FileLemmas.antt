@@ -2,24 +2,24 @@
 use Rattle.std.proofs.Common.{◌≡◌, ◌∙◌, ℕ, zero, suc, ◌<◌, inl, inr, List, [], ◌++◌, length, take, drop, Result, Ok, Err, IfOk, IfErr}
 use Rattle.std.proofs.Common.{OnOk, sym, subst, refl, ap, arith}
 use Rattle.std.proofs.lemmas.List.{append-nil, append_cancel_right, length-drop, length-map, take-append-drop}
-use Rattle.sa_lex.specs.declared.token.Token.{Token}
-use Rattle.sa_lex.specs.Tokens.{AreTokensOf}
-use Rattle.sa_tree.specs.declared.refusal.Refusal.{Refusal}
-use Rattle.sa_tree.specs.declared.refusal.FrontFault.{FrontFault}
-use Rattle.sa_tree.specs.declared.refusal.FrontFault.TheVariants as fault
-use Rattle.sa_parse_expr.specs.Grammar.{read_as}
-use Rattle.sa_parse_expr.specs.Level.{AreTaken}
-use Rattle.sa_parse_expr.specs.Lexemes.{Lexeme, lexemes_of}
-use Rattle.sa_parse_expr.specs.Readings.{IsLongest, IsRead, Read, Refused, read, refused}
-use Rattle.sa_parse.specs.declared.file.FileKind.{FileKind}
-use Rattle.sa_parse.specs.declared.file.FileKind.TheVariants.{Program}
-use Rattle.sa_parse.specs.declared.file.Parsed.{Parsed}
-use Rattle.sa_parse.specs.ClassForms.{file_form}
-use Rattle.sa_parse.specs.Classes.{Written, IsFile}
-use Rattle.sa_parse.specs.Files as files
+use Rattle.sa_lexer.specs.declared.token.Token.{Token}
+use Rattle.sa_lexer.specs.Tokens.{AreTokensOf}
+use Rattle.sa_ast.specs.declared.refusal.Refusal.{Refusal}
+use Rattle.sa_ast.specs.declared.refusal.Rejection.{Rejection}
+use Rattle.sa_ast.specs.declared.refusal.Rejection.TheVariants as fault
+use Rattle.sa_parser_expr.specs.Grammar.{read_as}
+use Rattle.sa_parser_expr.specs.Level.{AreTaken}
+use Rattle.sa_parser_expr.specs.Lexemes.{Lexeme, lexemes_of}
+use Rattle.sa_parser_expr.specs.Readings.{IsLongest, IsRead, Read, Refused, read, refused}
+use Rattle.sa_parser.specs.declared.file.FileKind.{FileKind}
+use Rattle.sa_parser.specs.declared.file.FileKind.TheVariants.{Program}
+use Rattle.sa_parser.specs.declared.file.ParsedFiles.{ParsedFiles}
+use Rattle.sa_parser.specs.ClassForms.{file_form}
+use Rattle.sa_parser.specs.Classes.{Written, IsFile}
+use Rattle.sa_parser.specs.Files as files
 use Rattle.sa_grammar.proofs.ClassesExact.{files_are_read}
 use Rattle.sa_read.specs.Front.{IsFirstUnexpected, IsParsedOf, IsUnexpectedIn, RefusesFile, file_kind_of}
-use Rattle.sa_read.specs.Program.{at}
+use Rattle.sa_read.specs.SourceFiles.{at}
 
 -- what stands in front of the rest is as much as the rest leaves
 front_is : (ls front : List Lexeme) (place : ℕ) → ls ≡ front ++ drop place ls → front ≡ take place ls
@@ -77,7 +77,7 @@ as_many : (number : ℕ) (text : List ℕ) (tokens : List Token) → length (lex
 as_many number text tokens = length-map tokens _
 
 -- where a text is refused by the form of files
-unexpected : (text : List ℕ) (number : ℕ) (tokens : List Token) (refusal : Refusal) (e : FrontFault) → e ≡ fault.Refused refusal
+unexpected : (text : List ℕ) (number : ℕ) (tokens : List Token) (refusal : Refusal) (e : Rejection) → e ≡ fault.Refused refusal
     → files.IsRefused number text tokens (file_kind_of number) e → IsUnexpectedIn text number tokens refusal
 unexpected text number tokens refusal _ same (files.refused place is) = record {
   place = place;
@@ -98,7 +98,7 @@ of_program (suc number) other = refl
 
 -- what is said of a text and of its tokens by other names
 pub parsed_at : (number first : ℕ) (text same_text : List ℕ) (tokens same_tokens : List Token)
-    (file_kind same_kind : FileKind) (r : Result Parsed FrontFault)
+    (file_kind same_kind : FileKind) (r : Result ParsedFiles Rejection)
     → text ≡ same_text → tokens ≡ same_tokens → file_kind ≡ same_kind
     → files.Parses number text tokens file_kind first r → files.Parses number same_text same_tokens same_kind first r
 parsed_at number first text same_text tokens same_tokens file_kind same_kind r a b c h =
@@ -108,7 +108,7 @@ parsed_at number first text same_text tokens same_tokens file_kind same_kind r a
 
 module _ (texts : List (List ℕ)) (number first : ℕ) (tokens : List Token) where
   -- the classes that are read of a text are those that it spells
-  pub text_spelled : (r : Result Parsed FrontFault) → AreTokensOf (at texts number) tokens → OnOk r (AreTaken tokens (length tokens))
+  pub text_spelled : (r : Result ParsedFiles Rejection) → AreTokensOf (at texts number) tokens → OnOk r (AreTaken tokens (length tokens))
       → files.Parses number (at texts number) tokens (file_kind_of number) first r
       → IfOk r (IsParsedOf texts number first)
   text_spelled (Ok parsed) of_text taken h = (
@@ -124,7 +124,7 @@ module _ (texts : List (List ℕ)) (number first : ℕ) (tokens : List Token) wh
   text_spelled (Err e) of_text taken h = tt
 
   -- a refusal of it is at the first token that breaks a rule, or at the first one with which no file goes on
-  pub text_refused : (r : Result Parsed FrontFault) → files.Parses number (at texts number) tokens (file_kind_of number) first r
+  pub text_refused : (r : Result ParsedFiles Rejection) → files.Parses number (at texts number) tokens (file_kind_of number) first r
       → IfErr r (RefusesFile (at texts number) number tokens)
   text_refused (Ok parsed) h = tt
   text_refused (Err (fault.Refused refusal)) (inl broken) = inl broken

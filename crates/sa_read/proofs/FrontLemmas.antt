@@ -4,17 +4,17 @@ use Rattle.std.proofs.Common.{arith, inl, inr}
 use Rattle.std.specs.List.{flat_map}
 use Rattle.std.proofs.lemmas.List.{flat_map_more, get_or_append_left, get_or_default, get_or_push, length-append}
 use Rattle.std.proofs.lemmas.Bool.{cases_lt}
-use Rattle.sa_lex.specs.declared.token.Token.{Token}
-use Rattle.sa_lex.specs.Tokens.{AreTokensOf, IsFaultOf, RefusesText}
-use Rattle.sa_parse_expr.specs.Level.{RefusesTokens}
-use Rattle.sa_parse.specs.declared.file.Parsed.{Parsed}
-use Rattle.sa_parse.specs.Classes.{parsed_of}
-use Rattle.sa_parse.proofs.Appended.{appended, same_parsed}
-use Rattle.sa_tree.specs.declared.refusal.FrontFault.{FrontFault}
-use Rattle.sa_tree.specs.declared.refusal.FrontFault.TheVariants.{Refused, NoMemory}
-use Rattle.sa_read.specs.Front.{AreTokensOfTexts, AreTokenizedUpTo, IsParsedOf, IsParsedUpTo, IsSpelled, IsTakenUpTo, IsUnexpectedIn}
+use Rattle.sa_lexer.specs.declared.token.Token.{Token}
+use Rattle.sa_lexer.specs.Tokens.{AreTokensOf, IsFaultOf, RefusesText}
+use Rattle.sa_parser_expr.specs.Level.{RefusesTokens}
+use Rattle.sa_parser.specs.declared.file.ParsedFiles.{ParsedFiles}
+use Rattle.sa_parser.specs.Classes.{parsed_of}
+use Rattle.sa_parser.proofs.Appended.{appended, same_parsed}
+use Rattle.sa_ast.specs.declared.refusal.Rejection.{Rejection}
+use Rattle.sa_ast.specs.declared.refusal.Rejection.TheVariants.{Refused, NoMemory}
+use Rattle.sa_read.specs.Front.{AreTokensOfTexts, AreTokenizedUpTo, IsParsedOf, IsParsedUpTo, IsSpelled, IsReadUpTo, IsUnexpectedIn}
 use Rattle.sa_read.specs.Front.{RefusesFile, RefusesProgram}
-use Rattle.sa_read.specs.Program.{at}
+use Rattle.sa_read.specs.SourceFiles.{at}
 
 -- what holds up to a number and of it holds up to the next one
 pub up_to_next : (P : ℕ → Type 0) (n : ℕ) → ((k : ℕ) → k < n → P k) → P n → (k : ℕ) → k < n + 1 → P k
@@ -39,7 +39,7 @@ tokenized : (texts : List (List ℕ)) (lists : List (List Token)) (n : ℕ) → 
 tokenized texts lists n (count, each) k lt = (slice_index_or lists k [], each k lt)
 
 -- a text without tokens behind texts that have them
-pub lexical : (texts : List (List ℕ)) (lists : List (List Token)) (n : ℕ) (fault : FrontFault)
+pub lexical : (texts : List (List ℕ)) (lists : List (List Token)) (n : ℕ) (fault : Rejection)
     → AreTokensOfTexts texts lists n → n < length texts → RefusesText (at texts n) n fault → RefusesProgram texts fault
 lexical texts lists n NoMemory each there refused = tt
 lexical texts lists n (Refused refusal) each there (fault, file) = inl (record {
@@ -49,8 +49,8 @@ lexical texts lists n (Refused refusal) each there (fault, file) = inl (record {
 })
 
 -- a text whose tokens break a rule behind texts whose tokens don't
-pub breach : (texts : List (List ℕ)) (lists : List (List Token)) (n : ℕ) (fault : FrontFault)
-    → AreTokensOfTexts texts lists (length texts) → n < length texts → IsTakenUpTo texts n
+pub breach : (texts : List (List ℕ)) (lists : List (List Token)) (n : ℕ) (fault : Rejection)
+    → AreTokensOfTexts texts lists (length texts) → n < length texts → IsReadUpTo texts n
     → RefusesTokens (slice_index_or lists n []) n fault → RefusesProgram texts fault
 breach texts lists n NoMemory each there before refused = tt
 breach texts lists n (Refused refusal) each there before (broken, file) = inr (inl (record {
@@ -62,13 +62,13 @@ breach texts lists n (Refused refusal) each there before (broken, file) = inr (i
   breach = broken;
 }))
 
-abbrev file_of : FrontFault → ℕ
+abbrev file_of : Rejection → ℕ
 file_of (Refused refusal) = refusal.pos.file
 file_of NoMemory = 0
 
 -- a text that is refused behind texts that spell classes
-pub grammar : (texts : List (List ℕ)) (lists : List (List Token)) (n : ℕ) (parsed : Parsed) (fault : FrontFault)
-    → AreTokensOfTexts texts lists (length texts) → n < length texts → IsTakenUpTo texts (length texts) → IsParsedUpTo texts n parsed
+pub grammar : (texts : List (List ℕ)) (lists : List (List Token)) (n : ℕ) (parsed : ParsedFiles) (fault : Rejection)
+    → AreTokensOfTexts texts lists (length texts) → n < length texts → IsReadUpTo texts (length texts) → IsParsedUpTo texts n parsed
     → RefusesFile (at texts n) n (slice_index_or lists n []) fault → RefusesProgram texts fault
 grammar texts lists n parsed NoMemory each there taken so_far refused = tt
 grammar texts lists n parsed (Refused refusal) each there taken so_far (inl broken) =
@@ -103,7 +103,7 @@ of_text texts lists n text d tokens e each there of_number list =
 
 -- ---- one text more
 
-pub nothing_parsed : (texts : List (List ℕ)) (parsed : Parsed) → parsed.classes ≡ [] → parsed.contracts ≡ [] → IsParsedUpTo texts 0 parsed
+pub nothing_parsed : (texts : List (List ℕ)) (parsed : ParsedFiles) → parsed.classes ≡ [] → parsed.contracts ≡ [] → IsParsedUpTo texts 0 parsed
 nothing_parsed texts parsed classes contracts = record {
   written = [];
   count = refl;
@@ -114,7 +114,7 @@ nothing_parsed texts parsed classes contracts = record {
 from_first : {first n : ℕ} → first ≡ n → first ≡ 0 + n
 from_first same = omega (arith, same)
 
-pub parsed_more : (texts : List (List ℕ)) (n first : ℕ) (before file after : Parsed) → IsParsedUpTo texts n before
+pub parsed_more : (texts : List (List ℕ)) (n first : ℕ) (before file after : ParsedFiles) → IsParsedUpTo texts n before
     → first ≡ length before.classes → IsParsedOf texts n first file → after.classes ≡ before.classes ++ file.classes
     → after.contracts ≡ before.contracts ++ file.contracts → IsParsedUpTo texts (n + 1) after
 parsed_more texts n first before file after so_far number (more, spelled, made) classes contracts = record {
@@ -126,7 +126,7 @@ parsed_more texts n first before file after so_far number (more, spelled, made) 
       subst (IsSpelled texts k) (sym kept) (so_far.each k lt))
       (subst (IsSpelled texts n) (sym (get_or_push so_far.written more [] n so_far.count)) spelled);
   made = appended 0 first (flat_map (λ classes. classes) so_far.written) more before after file.classes file.contracts so_far.made
-      (from_first number) (ap (λ (parsed : Parsed). parsed.classes) made) (ap (λ (parsed : Parsed). parsed.contracts) made)
+      (from_first number) (ap (λ (parsed : ParsedFiles). parsed.classes) made) (ap (λ (parsed : ParsedFiles). parsed.contracts) made)
       classes contracts
       ∙ ap (parsed_of 0) (flat_map_more (λ classes. classes) [] so_far.written more);
 }

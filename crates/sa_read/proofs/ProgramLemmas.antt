@@ -4,12 +4,12 @@ use Rattle.std.proofs.Math.Seq.{take-append_seam, take-suc}
 use Rattle.std.proofs.lemmas.List.{get_or_append_left, get_or-map, get_or_push, length-append, length-map}
 use Rattle.std.proofs.lemmas.List.Sums.{sum_by-append}
 use Rattle.std.specs.Borrow.{Bor}
-use Rattle.sa_outside.proofs.Counts.{Rose-earlier}
-use Rattle.sa_outside.specs.Faults.{Rose}
-use Rattle.sa_outside.specs.Files.{Files, Lacks}
-use Rattle.sa_tree.specs.declared.pos.Sources.{Sources}
-use Rattle.sa_read.specs.Read.{HasFile, HasLonger}
-use Rattle.sa_read.specs.Program.{AreNamed, HaveTexts, IsCut, LacksOneOf, at, most, size, too_large}
+use Rattle.host_io.proofs.Counts.{Rose-earlier}
+use Rattle.host_io.specs.Faults.{Rose}
+use Rattle.host_io.specs.Files.{Files, Lacks}
+use Rattle.sa_ast.specs.declared.pos.Sources.{Sources}
+use Rattle.sa_read.specs.FileContents.{HasFile, HasLonger}
+use Rattle.sa_read.specs.SourceFiles.{AreNamed, HaveTexts, IsCut, LacksOneOf, at, most, size, too_large}
 use Rattle.sa_read.proofs.FrontLemmas.{up_to_next}
 
 -- the name at a place, of names that are borrowed

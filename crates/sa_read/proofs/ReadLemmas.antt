@@ -3,11 +3,11 @@ use Rattle.std.proofs.Common.{◌≡◌, ℕ, ◌+◌, ◌<◌, ◌≤◌, List,
 use Rattle.std.proofs.lemmas.List.{length-take-le, take_all, take-take}
 use Rattle.std.specs.Prelude.{⊤}
 use Rattle.std.specs.FinMap.{get}
-use Rattle.sa_outside.specs.Files.{Files, Reads}
+use Rattle.host_io.specs.Files.{Files, Reads}
 use Rattle.std.proofs.Common.{Global, Vec, subst}
-use Rattle.sa_read.specs.Read.{HasFile, HasLonger, IsReadOf}
-use Rattle.sa_read.specs.declared.read.Read.{Read}
-use Rattle.sa_read.specs.declared.read.Read.TheVariants.{Whole, Cut}
+use Rattle.sa_read.specs.FileContents.{HasFile, HasLonger, IsReadOf}
+use Rattle.sa_read.specs.declared.read.FileContents.{FileContents}
+use Rattle.sa_read.specs.declared.read.FileContents.TheVariants.{Whole, Cut}
 
 -- if there is a file of this name, it begins with these bytes, where the store tells
 abbrev pub HasFront : Option Files → List ℕ → List ℕ → Type 0
@@ -62,9 +62,9 @@ front_passes (Some files) name bytes buffer more place n taken limit at fits wit
     (read.0, read.1, omega arith, longer ∙ ap (λ k. bytes ++ take k buffer) room ∙ sym passed)
 
 -- a read that was cut, by what the store held before
-pub cut_of : (before files : Option Files) (name : List ℕ) (limit : ℕ) (read : Read) (text : Vec ℕ Global) → files ≡ before → read ≡ Cut text → IsReadOf files name limit read → HasLonger before name limit text.items × (length text.items ≡ limit)
+pub cut_of : (before files : Option Files) (name : List ℕ) (limit : ℕ) (read : FileContents) (text : Vec ℕ Global) → files ≡ before → read ≡ Cut text → IsReadOf files name limit read → HasLonger before name limit text.items × (length text.items ≡ limit)
 cut_of before files name limit read text same is of_file = subst (λ files. HasLonger files name limit text.items × (length text.items ≡ limit)) same (subst (IsReadOf files name limit) is of_file)
 
 -- a read of a whole file
-pub whole_of : (before files : Option Files) (name : List ℕ) (limit : ℕ) (read : Read) (text : Vec ℕ Global) → files ≡ before → read ≡ Whole text → IsReadOf files name limit read → HasFile before name text.items × (length text.items ≤ limit)
+pub whole_of : (before files : Option Files) (name : List ℕ) (limit : ℕ) (read : FileContents) (text : Vec ℕ Global) → files ≡ before → read ≡ Whole text → IsReadOf files name limit read → HasFile before name text.items × (length text.items ≤ limit)
 whole_of before files name limit read text same is of_file = subst (λ files. HasFile files name text.items × (length text.items ≤ limit)) same (subst (IsReadOf files name limit) is of_file)

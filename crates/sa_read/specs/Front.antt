@@ -1,20 +1,20 @@
 -- Which classes and contracts the texts of a program give, and why they give none.
 use Rattle.std.specs.Prelude.{◌≡◌, ◌⊎◌, ⊤, ℕ, zero, suc, ◌<◌, List, [], length, take, drop, slice_index_or, Result, Ok, Err}
 use Rattle.std.specs.List.{flat_map}
-use Rattle.sa_lex.specs.declared.token.Token.{Token}
-use Rattle.sa_lex.specs.Tokens.{AreTokensOf, IsFaultOf}
-use Rattle.sa_parse_expr.specs.Level.{AreTaken, IsFirstBreach, RefusesTokens}
-use Rattle.sa_parse_expr.specs.Lexemes.{Lexeme, lexemes_of}
-use Rattle.sa_parse_expr.specs.Places.{unexpected_at}
-use Rattle.sa_parse_expr.specs.Readings.{IsLongest}
-use Rattle.sa_parse.specs.declared.file.FileKind.{FileKind}
-use Rattle.sa_parse.specs.declared.file.FileKind.TheVariants.{Prelude, Program}
-use Rattle.sa_parse.specs.declared.file.Parsed.{Parsed}
-use Rattle.sa_parse.specs.Classes.{Written, IsFile, parsed_of}
-use Rattle.sa_tree.specs.declared.refusal.Refusal.{Refusal}
-use Rattle.sa_tree.specs.declared.refusal.FrontFault.{FrontFault}
-use Rattle.sa_tree.specs.declared.refusal.FrontFault.TheVariants.{Refused, NoMemory}
-use Rattle.sa_read.specs.Program.{at}
+use Rattle.sa_lexer.specs.declared.token.Token.{Token}
+use Rattle.sa_lexer.specs.Tokens.{AreTokensOf, IsFaultOf}
+use Rattle.sa_parser_expr.specs.Level.{AreTaken, IsFirstBreach, RefusesTokens}
+use Rattle.sa_parser_expr.specs.Lexemes.{Lexeme, lexemes_of}
+use Rattle.sa_parser_expr.specs.Positions.{unexpected_at}
+use Rattle.sa_parser_expr.specs.Readings.{IsLongest}
+use Rattle.sa_parser.specs.declared.file.FileKind.{FileKind}
+use Rattle.sa_parser.specs.declared.file.FileKind.TheVariants.{Prelude, Program}
+use Rattle.sa_parser.specs.declared.file.ParsedFiles.{ParsedFiles}
+use Rattle.sa_parser.specs.Classes.{Written, IsFile, parsed_of}
+use Rattle.sa_ast.specs.declared.refusal.Refusal.{Refusal}
+use Rattle.sa_ast.specs.declared.refusal.Rejection.{Rejection}
+use Rattle.sa_ast.specs.declared.refusal.Rejection.TheVariants.{Refused, NoMemory}
+use Rattle.sa_read.specs.SourceFiles.{at}
 
 -- the text has tokens
 abbrev pub HasTokens : List ℕ → Type 0
@@ -33,8 +33,8 @@ abbrev pub IsTakenText : List ℕ → Type 0
 IsTakenText text = (tokens : List Token) × AreTokensOf text tokens × AreTaken tokens (length tokens)
 
 -- the first n texts are such
-abbrev pub IsTakenUpTo : List (List ℕ) → ℕ → Type 0
-IsTakenUpTo texts n = (k : ℕ) → k < n → IsTakenText (at texts k)
+abbrev pub IsReadUpTo : List (List ℕ) → ℕ → Type 0
+IsReadUpTo texts n = (k : ℕ) → k < n → IsTakenText (at texts k)
 
 -- the first text is the prelude's, and the others are the program's
 abbrev pub file_kind_of : ℕ → FileKind
@@ -49,26 +49,26 @@ pub record IsSpelled (texts : List (List ℕ)) (number : ℕ) (written : List Wr
   pub spelled : IsFile (file_kind_of number) (lexemes_of number (at texts number) tokens) written
 
 -- what was parsed are the classes that this text spells, with their contracts. Its first class has the place `first`
-abbrev pub IsParsedOf : List (List ℕ) → ℕ → ℕ → Parsed → Type 0
+abbrev pub IsParsedOf : List (List ℕ) → ℕ → ℕ → ParsedFiles → Type 0
 IsParsedOf texts number first parsed = (written : List Written) × IsSpelled texts number written × (parsed ≡ parsed_of first written)
 
 -- what was parsed are the classes that the first n texts spell, one behind the other, with their contracts
-pub record IsParsedUpTo (texts : List (List ℕ)) (n : ℕ) (parsed : Parsed) : Type 0 where
+pub record IsParsedUpTo (texts : List (List ℕ)) (n : ℕ) (parsed : ParsedFiles) : Type 0 where
   pub written : List (List Written)
   pub count : length written ≡ n
   pub each : (k : ℕ) → k < n → IsSpelled texts k (slice_index_or written k [])
   pub made : parsed ≡ parsed_of 0 (flat_map (λ classes. classes) written)
 
 -- what was parsed are the classes of all texts, with their contracts
-abbrev pub IsProgramOf : List (List ℕ) → Parsed → Type 0
+abbrev pub IsProgramOf : List (List ℕ) → ParsedFiles → Type 0
 IsProgramOf texts parsed = IsParsedUpTo texts (length texts) parsed
 
 -- all texts spell classes
 abbrev pub AreSpelled : List (List ℕ) → Type 0
-AreSpelled texts = (parsed : Parsed) × IsProgramOf texts parsed
+AreSpelled texts = (parsed : ParsedFiles) × IsProgramOf texts parsed
 
 -- what comes of texts that are this program: it, unless memory runs out
-abbrev pub GivesProgram : Parsed → Result Parsed FrontFault → Type 0
+abbrev pub GivesProgram : ParsedFiles → Result ParsedFiles Rejection → Type 0
 GivesProgram parsed (Ok found) = found ≡ parsed
 GivesProgram parsed (Err (Refused refusal)) = ⊥
 GivesProgram parsed (Err NoMemory) = ⊤
@@ -83,7 +83,7 @@ pub record IsLexicalFault (texts : List (List ℕ)) (refusal : Refusal) : Type 0
 pub record IsBreach (texts : List (List ℕ)) (refusal : Refusal) : Type 0 where
   pub tokenized : AreTokenizedUpTo texts (length texts)
   pub within : refusal.pos.file < length texts
-  pub before : IsTakenUpTo texts refusal.pos.file
+  pub before : IsReadUpTo texts refusal.pos.file
   pub tokens : List Token
   pub of_text : AreTokensOf (at texts refusal.pos.file) tokens
   pub breach : IsFirstBreach tokens refusal
@@ -101,7 +101,7 @@ pub record IsUnexpectedIn (text : List ℕ) (number : ℕ) (tokens : List Token)
 
 -- all texts may be parsed, each one before that of the refusal spells classes, and the refusal is E06 where this one goes on as no file
 pub record IsGrammarFault (texts : List (List ℕ)) (refusal : Refusal) : Type 0 where
-  pub taken : IsTakenUpTo texts (length texts)
+  pub taken : IsReadUpTo texts (length texts)
   pub within : refusal.pos.file < length texts
   pub before : (k : ℕ) → k < refusal.pos.file → (written : List Written) × IsSpelled texts k written
   pub tokens : List Token
@@ -112,12 +112,12 @@ pub record IsGrammarFault (texts : List (List ℕ)) (refusal : Refusal) : Type 0
 abbrev pub IsRefusalOf : List (List ℕ) → Refusal → Type 0
 IsRefusalOf texts refusal = IsLexicalFault texts refusal ⊎ (IsBreach texts refusal ⊎ IsGrammarFault texts refusal)
 
-abbrev pub RefusesProgram : List (List ℕ) → FrontFault → Type 0
+abbrev pub RefusesProgram : List (List ℕ) → Rejection → Type 0
 RefusesProgram texts (Refused refusal) = IsRefusalOf texts refusal
 RefusesProgram texts NoMemory = ⊤
 
 -- a text is refused for the first of its tokens that breaks a rule, or else for the first with which no file goes on
-abbrev pub RefusesFile : List ℕ → ℕ → List Token → FrontFault → Type 0
+abbrev pub RefusesFile : List ℕ → ℕ → List Token → Rejection → Type 0
 RefusesFile text number tokens (Refused refusal) =
     RefusesTokens tokens number (Refused refusal) ⊎ IsUnexpectedIn text number tokens refusal
 RefusesFile text number tokens NoMemory = ⊤

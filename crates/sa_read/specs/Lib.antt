@@ -1,3 +1,3 @@
 pub mod Front
-pub mod Program
-pub mod Read
+pub mod SourceFiles
+pub mod FileContents

@@ -1,14 +1,14 @@
 //! The classes and the contracts of a program.
 
 ghost use Rattle.std.specs.Prelude.{◌≡◌, ◌+◌, ◌<◌, [], ◌++◌, length, slice_index_or, All, IfOk, IfErr, OnOk};
-ghost use Rattle.sa_parse.specs.declared.file.Parsed.{Parsed};
-ghost use Rattle.sa_read.specs.Front.{AreTokensOfTexts, GivesProgram, IsParsedOf, IsProgramOf, IsTakenUpTo, RefusesFile, RefusesProgram};
-ghost use Rattle.sa_read.specs.Program.{at};
+ghost use Rattle.sa_parser.specs.declared.file.ParsedFiles.{ParsedFiles};
+ghost use Rattle.sa_read.specs.Front.{AreTokensOfTexts, GivesProgram, IsParsedOf, IsProgramOf, IsReadUpTo, RefusesFile, RefusesProgram};
+ghost use Rattle.sa_read.specs.SourceFiles.{at};
 
 use crate::tokens::{lex_all, scan_all};
-use sa_lex::Token;
-use sa_parse::{FileKind, Parsed, parse};
-use sa_tree::{FrontFault, NoMemory};
+use sa_ast::{NoMemory, Rejection};
+use sa_lexer::Token;
+use sa_parser::{FileKind, ParsedFiles, parse};
 use sqlite_items::Items;
 use std::alloc::{AllocError, Global};
 
@@ -22,11 +22,11 @@ const MOST_PLACES: usize = u32::MAX as usize;
 /// The first refusal, by the tokens of all texts, then by their words and levels, then by the grammar: in the first text
 /// that is no file, at the first token with which those up to it begin none, or at the end of the text. Or `NoMemory`, also
 /// where the classes can't be numbered.
-pub fn parse_program(alloc: Global, texts: &[Items<u8>]) -> Result<Parsed, FrontFault>
+pub fn parse_program(alloc: Global, texts: &[Items<u8>]) -> Result<ParsedFiles, Rejection>
     requires short { All (λ text. length text < 4294967295) texts.now }
     requires few { length texts.now < 4294967295 }
     ensures classes { IfOk result (IsProgramOf texts.now) }
-    ensures only { (parsed : Parsed) → IsProgramOf texts.now parsed → GivesProgram parsed result }
+    ensures only { (parsed : ParsedFiles) → IsProgramOf texts.now parsed → GivesProgram parsed result }
     ensures refused { IfErr result (RefusesProgram texts.now) }
 {
     let lists = lex_all(alloc, texts)?;
@@ -39,15 +39,15 @@ fn parse_all(
     alloc: Global,
     texts: &[Items<u8>],
     lists: &[Items<Token>],
-) -> Result<Parsed, FrontFault>
+) -> Result<ParsedFiles, Rejection>
     requires short { All (λ text. length text < 4294967295) texts.now }
     requires few { length texts.now < 4294967295 }
     requires tokens { AreTokensOfTexts texts.now lists.now (length texts.now) }
-    requires taken { IsTakenUpTo texts.now (length texts.now) }
+    requires taken { IsReadUpTo texts.now (length texts.now) }
     ensures classes { IfOk result (IsProgramOf texts.now) }
     ensures refused { IfErr result (RefusesProgram texts.now) }
 {
-    let mut parsed = Parsed {
+    let mut parsed = ParsedFiles {
         classes: Items::new(alloc),
         contracts: Items::new(alloc),
     };
@@ -60,11 +60,11 @@ fn parse_all(
 }
 
 /// Puts what a file declares behind what is there.
-fn append(parsed: &mut Parsed, file: Parsed) -> Result<(), AllocError>
+fn append(parsed: &mut ParsedFiles, file: ParsedFiles) -> Result<(), AllocError>
     ensures classes { OnOk result (parsed.new.classes ≡ parsed.old.classes ++ file.classes) }
     ensures contracts { OnOk result (parsed.new.contracts ≡ parsed.old.contracts ++ file.contracts) }
 {
-    let Parsed { classes, contracts } = file;
+    let ParsedFiles { classes, contracts } = file;
     parsed.classes.append(classes)?;
     parsed.contracts.append(contracts)
 }
@@ -86,7 +86,7 @@ fn parse_text(
     lists: &[Items<Token>],
     number: usize,
     first: u32,
-) -> Result<Parsed, FrontFault>
+) -> Result<ParsedFiles, Rejection>
     requires short { All (λ text. length text < 4294967295) texts.now }
     requires few { length texts.now < 4294967295 }
     requires tokens { AreTokensOfTexts texts.now lists.now (length texts.now) }

@@ -3,11 +3,11 @@
 #![tactic(auto)]
 
 mod front;
-mod program;
 mod read;
+mod source_files;
 mod tokens;
 
 pub use front::parse_program;
-pub use program::{MOST_BYTES, Program, prelude, read_program};
-pub use read::{Read, ReadFault, read_file};
-pub use sa_parse::Parsed;
+pub use read::{FileContents, ReadFault, read_file};
+pub use sa_parser::ParsedFiles;
+pub use source_files::{MOST_BYTES, SourceFiles, prelude, read_program};

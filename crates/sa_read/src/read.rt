@@ -1,11 +1,11 @@
 //! Files that are read to their end through a store.
 
 ghost use Rattle.std.specs.Prelude.{◌≡◌, ◌+◌, ◌<◌, ◌≤◌, ◌⊎◌, ◌^◌, length, vec_len, IfOk, IsErrOf};
-ghost use Rattle.sa_outside.specs.Faults.{Rose};
-ghost use Rattle.sa_outside.specs.Files.{Lacks};
-ghost use Rattle.sa_read.specs.Read.{IsReadOf, read_fault_of};
+ghost use Rattle.host_io.specs.Faults.{Rose};
+ghost use Rattle.host_io.specs.Files.{Lacks};
+ghost use Rattle.sa_read.specs.FileContents.{IsReadOf, read_fault_of};
 
-use sa_outside::{Outage, ReadFiles};
+use host_io::{Outage, ReadFiles};
 use std::alloc::{AllocError, Global};
 
 /// How many bytes are asked of a store at once.
@@ -13,7 +13,7 @@ const PIECE: usize = 65_536;
 
 /// What was read of a file.
 #[derive(Debug, Drop)]
-pub enum Read {
+pub enum FileContents {
     /// All of its bytes.
     Whole(Vec<u8>),
     /// The bytes up to the limit, behind which it has more.
@@ -55,7 +55,7 @@ pub fn read_file<S: ReadFiles>(
     store: &mut S,
     name: &str,
     limit: usize,
-) -> Result<Read, ReadFault>
+) -> Result<FileContents, ReadFault>
     ensures read { IfOk result (λ read. IsReadOf (S.files store.old) name.now limit read) }
     ensures failed { IsErrOf result ReadFault.Failed → Rose (S.faults store.old) (S.faults store.new) ⊎ Lacks (S.files store.old) name.now }
     ensures files { S.files store.new ≡ S.files store.old }
@@ -72,7 +72,7 @@ fn read_pieces<S: ReadFiles>(
     name: &str,
     limit: usize,
     piece: &mut [u8],
-) -> Result<Read, ReadFault>
+) -> Result<FileContents, ReadFault>
     requires { 0 < length piece.old }
     ensures read { IfOk result (λ read. IsReadOf (S.files store.old) name.now limit read) }
     ensures failed { IsErrOf result ReadFault.Failed → Rose (S.faults store.old) (S.faults store.new) ⊎ Lacks (S.files store.old) name.now }
@@ -84,12 +84,12 @@ fn read_pieces<S: ReadFiles>(
         let place = bytes.len() as u64;
         let read = store.read_at(name, place, piece)?;
         if read == 0 {
-            return Ok(Read::Whole(bytes));
+            return Ok(FileContents::Whole(bytes));
         }
         let taken = read.min(limit - bytes.len());
         bytes.extend_from_slice(&piece[..taken])?;
         if taken < read {
-            return Ok(Read::Cut(bytes));
+            return Ok(FileContents::Cut(bytes));
         }
     }
 }

@@ -1,19 +1,19 @@
 //! The tokens of each text of a program, and whether a parser may go over them.
 
 ghost use Rattle.std.specs.Prelude.{◌<◌, [], length, slice_index_or, All, IfOk, IfErr};
-ghost use Rattle.sa_lex.specs.Tokens.{AreTokensOf, RefusesText};
-ghost use Rattle.sa_parse_expr.specs.Level.{RefusesTokens};
-ghost use Rattle.sa_read.specs.Front.{AreTokensOfTexts, IsTakenText, IsTakenUpTo, RefusesProgram};
-ghost use Rattle.sa_read.specs.Program.{at};
+ghost use Rattle.sa_lexer.specs.Tokens.{AreTokensOf, RefusesText};
+ghost use Rattle.sa_parser_expr.specs.Level.{RefusesTokens};
+ghost use Rattle.sa_read.specs.Front.{AreTokensOfTexts, IsTakenText, IsReadUpTo, RefusesProgram};
+ghost use Rattle.sa_read.specs.SourceFiles.{at};
 
-use sa_lex::{Token, lex};
-use sa_parse_expr::scan;
-use sa_tree::FrontFault;
+use sa_ast::Rejection;
+use sa_lexer::{Token, lex};
+use sa_parser_expr::scan;
 use sqlite_items::Items;
 use std::alloc::Global;
 
 /// The tokens of each text, or the first lexical fault of the first text that has one.
-pub(crate) fn lex_all(alloc: Global, texts: &[Items<u8>]) -> Result<Items<Items<Token>>, FrontFault>
+pub(crate) fn lex_all(alloc: Global, texts: &[Items<u8>]) -> Result<Items<Items<Token>>, Rejection>
     requires short { All (λ text. length text < 4294967295) texts.now }
     requires few { length texts.now < 4294967295 }
     ensures tokens { IfOk result (λ lists. AreTokensOfTexts texts.now lists (length texts.now)) }
@@ -27,7 +27,7 @@ pub(crate) fn lex_all(alloc: Global, texts: &[Items<u8>]) -> Result<Items<Items<
 }
 
 /// The tokens of the text with this number.
-fn lex_text(alloc: Global, texts: &[Items<u8>], number: usize) -> Result<Items<Token>, FrontFault>
+fn lex_text(alloc: Global, texts: &[Items<u8>], number: usize) -> Result<Items<Token>, Rejection>
     requires short { All (λ text. length text < 4294967295) texts.now }
     requires few { length texts.now < 4294967295 }
     requires there { number < length texts.now }
@@ -44,10 +44,10 @@ pub(crate) fn scan_all(
     alloc: Global,
     texts: &[Items<u8>],
     lists: &[Items<Token>],
-) -> Result<(), FrontFault>
+) -> Result<(), Rejection>
     requires tokens { AreTokensOfTexts texts.now lists.now (length texts.now) }
     requires few { length texts.now < 4294967295 }
-    ensures taken { IfOk result (λ _. IsTakenUpTo texts.now (length texts.now)) }
+    ensures taken { IfOk result (λ _. IsReadUpTo texts.now (length texts.now)) }
     ensures refused { IfErr result (RefusesProgram texts.now) }
 {
     for number in 0..texts.len() {
@@ -62,7 +62,7 @@ fn scan_text(
     texts: &[Items<u8>],
     lists: &[Items<Token>],
     number: usize,
-) -> Result<(), FrontFault>
+) -> Result<(), Rejection>
     requires tokens { AreTokensOfTexts texts.now lists.now (length texts.now) }
     requires few { length texts.now < 4294967295 }
     requires there { number < length texts.now }

@@ -3,10 +3,10 @@
 use crate::answers::{DONE, GIVE_ADDRESS, GIVE_WORD, INDEX_IF, NO_ROOM_IF};
 use crate::fault_numbers::{INDEX, VOID};
 use crate::layout::ALLOCATE;
-use crate::line::Op::{Call, Do, Get, I32, I64, Memory, Tee};
 use crate::locals::{FIRST, MADE, SECOND, SELF};
 use crate::operations::{LOAD_LENGTH, TO_ADDRESS, TO_WORD};
-use crate::parts::Part::{self, If, Line, Sequence};
+use crate::template_ops::TemplateOp::{Call, Do, Get, I32, I64, Memory, Tee};
+use crate::templates::Template::{self, If, Line, Sequence};
 use wa_syntax::opcode::{
     I32_ADD, I32_EQZ, I64_ADD, I64_EQZ, I64_GE_U, I64_LOAD, I64_LT_S, I64_OR, I64_SHL, I64_STORE,
     RETURN, SELECT,
@@ -14,7 +14,7 @@ use wa_syntax::opcode::{
 
 /// Ends the feature by `void` where the array is void, and by `index` where it has no element at the place. A void array is
 /// the address 0, where the length is 0; as a number without sign a negative place is greater than each length.
-const HAS_ELEMENT: Part = Sequence(&[
+const HAS_ELEMENT: Template = Sequence(&[
     Line(&[Get(FIRST), Get(SELF), TO_ADDRESS, LOAD_LENGTH]),
     Line(&[Do(I64_GE_U)]),
     If(&[
@@ -24,16 +24,16 @@ const HAS_ELEMENT: Part = Sequence(&[
 ]);
 
 /// The address of the array's element at the place, but for the attributes that stand before the elements.
-const ELEMENT: Part = Sequence(&[
+const ELEMENT: Template = Sequence(&[
     Line(&[Get(FIRST), I64(3), Do(I64_SHL)]),
     Line(&[Get(SELF), Do(I64_ADD), TO_ADDRESS]),
 ]);
 
 /// `AREF.asize`.
-pub(crate) const ASIZE: &[Part] = &[Line(&[Get(SELF), TO_ADDRESS, LOAD_LENGTH]), GIVE_WORD];
+pub(crate) const ASIZE: &[Template] = &[Line(&[Get(SELF), TO_ADDRESS, LOAD_LENGTH]), GIVE_WORD];
 
 /// `AREF.aget`. The parameter behind the place is how many bytes the array's address stands before its first element.
-pub(crate) const AGET: &[Part] = &[
+pub(crate) const AGET: &[Template] = &[
     HAS_ELEMENT,
     ELEMENT,
     Line(&[Get(2), Do(I32_ADD), Memory(I64_LOAD, 0)]),
@@ -41,7 +41,7 @@ pub(crate) const AGET: &[Part] = &[
 ];
 
 /// `AREF.aset`. The parameter behind the value is how many bytes the array's address stands before its first element.
-pub(crate) const ASET: &[Part] = &[
+pub(crate) const ASET: &[Template] = &[
     HAS_ELEMENT,
     ELEMENT,
     Line(&[Get(3), Do(I32_ADD)]),
@@ -51,7 +51,7 @@ pub(crate) const ASET: &[Part] = &[
 
 /// `ARRAY.create`. The parameters behind the number of elements are the type, and how many bytes the array's address stands
 /// before its first element.
-pub(crate) const CREATE: &[Part] = &[
+pub(crate) const CREATE: &[Template] = &[
     Line(&[Get(FIRST), I64(0), Do(I64_LT_S)]),
     INDEX_IF,
     Line(&[Get(FIRST), I64(32), Do(I64_SHL)]),

@@ -1,20 +1,22 @@
 //! `BOUND_CALL`: the call of a bound value. What it calls stands in the words of its bind, so the function is the same in each
 //! program.
 
-use crate::bound_features::add_features;
+use crate::bound_features::emit_features;
 use crate::bound_locals::{BEHIND_BOUND, DEPTH, ENTRY, FRAME, INDEX, KIND, OBJECT, SELF, STATUS};
 use crate::fault_numbers::{TOO_DEEP, TOO_MANY_FRAMES};
 use crate::layout::{
-    BODY_TYPE, COUNT_AT, END_FRAME, FAULT_KIND, FIRST_ARGUMENT_AT, FRAME_OUT, HALF_BITS, HANDED_ON,
+    BODY_TYPE, COUNT_AT, END_FRAME, FAULT_KIND, FIRST_ARGUMENT_AT, FORWARDED, FRAME_OUT, HALF_BITS,
     KIND_AT, LOW_HALF, MADE, NEW_FRAME, NUMBER_AT, RETURNED, ROUTINE, SUSPENDED,
 };
-use crate::line::Op::{Br, Call, CallIndirect, Do, Get, I32, I64, Memory, Set, SetGlobal, Tee};
 use crate::operations::{LOAD_COUNT, TO_ADDRESS};
-use crate::parts::Part::{self, Block, If, IfElse, Line, Sequence, Tell, TellOutcome};
-use crate::parts::{add_parts, instructions, locals};
 use crate::signatures::CALLS_BOUND;
 use crate::spread::{GATHER, SPREAD};
-use crate::trace::{Event, Tracing};
+use crate::template_ops::TemplateOp::{
+    Br, Call, CallIndirect, Do, Get, I32, I64, Memory, Set, SetGlobal, Tee,
+};
+use crate::templates::Template::{self, Block, EmitEvent, EmitOutcome, If, IfElse, Line, Sequence};
+use crate::templates::{emit_templates, instructions, locals};
+use crate::trace::{TraceEvent, Tracing};
 use std::alloc::Global;
 use wa_syntax::opcode::{
     I32_ADD, I32_EQ, I32_EQZ, I32_LE_U, I32_LOAD, I32_LT_U, I32_NE, I32_SUB, I64_AND, I64_LOAD,
@@ -26,7 +28,7 @@ use wa_syntax::{Func, NoMemory};
 const RECEIVER_AT: u32 = 8;
 
 /// Reads the words of the bind and the receiver.
-const READ_BIND: Part = Sequence(&[
+const READ_BIND: Template = Sequence(&[
     Line(&[Get(OBJECT), LOAD_COUNT, Tee(ENTRY)]),
     Line(&[Memory(I32_LOAD, KIND_AT), Set(KIND)]),
     Line(&[Get(ENTRY), Memory(I32_LOAD, NUMBER_AT), Set(INDEX)]),
@@ -35,7 +37,7 @@ const READ_BIND: Part = Sequence(&[
 
 /// Where the receiver's class chose what is called, takes its place in the table from above the receiver's address. The forms
 /// of what was chosen stand in the same order as those of what is called by its place.
-const READ_CHOSEN: Part = Sequence(&[
+const READ_CHOSEN: Template = Sequence(&[
     Line(&[Get(KIND), I32(ROUTINE), Do(I32_LT_U)]),
     If(&[
         Line(&[Get(SELF), I64(HALF_BITS), Do(I64_SHR_U)]),
@@ -46,34 +48,34 @@ const READ_CHOSEN: Part = Sequence(&[
 ]);
 
 /// Hands on the fault of an activation that would nest too deep.
-const DEPTH_TEST: Part = Sequence(&[
+const DEPTH_TEST: Template = Sequence(&[
     Line(&[Get(DEPTH), Do(I32_EQZ)]),
     If(&[
         Line(&[I32(TOO_DEEP), SetGlobal(FAULT_KIND)]),
-        Line(&[I32(HANDED_ON), Do(RETURN)]),
+        Line(&[I32(FORWARDED), Do(RETURN)]),
     ]),
 ]);
 
 /// One activation more.
-const DEEPER: Part = Line(&[Get(DEPTH), I32(1), Do(I32_SUB), Set(DEPTH)]);
+const DEEPER: Template = Line(&[Get(DEPTH), I32(1), Do(I32_SUB), Set(DEPTH)]);
 
 /// The own object, how much deeper activations may nest, the frame, and the place in the table: what stands behind the arguments.
-const BEHIND_ARGUMENTS: Part = Line(&[Get(SELF), Get(DEPTH), Get(FRAME), Get(INDEX)]);
+const BEHIND_ARGUMENTS: Template = Line(&[Get(SELF), Get(DEPTH), Get(FRAME), Get(INDEX)]);
 
 /// The number of arguments of what is called.
-const COUNT: Part = Line(&[Get(ENTRY), Memory(I32_LOAD, COUNT_AT)]);
+const COUNT: Template = Line(&[Get(ENTRY), Memory(I32_LOAD, COUNT_AT)]);
 
 /// Reads the first argument, and those behind it.
-const FIRST: Part = Line(&[I32(0), Memory(I64_LOAD, FIRST_ARGUMENT_AT)]);
+const FIRST: Template = Line(&[I32(0), Memory(I64_LOAD, FIRST_ARGUMENT_AT)]);
 
-const SECOND: Part = Line(&[I32(0), Memory(I64_LOAD, FIRST_ARGUMENT_AT + 8)]);
+const SECOND: Template = Line(&[I32(0), Memory(I64_LOAD, FIRST_ARGUMENT_AT + 8)]);
 
-const THIRD: Part = Line(&[I32(0), Memory(I64_LOAD, FIRST_ARGUMENT_AT + 16)]);
+const THIRD: Template = Line(&[I32(0), Memory(I64_LOAD, FIRST_ARGUMENT_AT + 16)]);
 
-const FOURTH: Part = Line(&[I32(0), Memory(I64_LOAD, FIRST_ARGUMENT_AT + 24)]);
+const FOURTH: Template = Line(&[I32(0), Memory(I64_LOAD, FIRST_ARGUMENT_AT + 24)]);
 
 /// Calls a body through the table, with as many of its arguments as are parameters.
-const CALL: Part = Block(&[
+const CALL: Template = Block(&[
     COUNT,
     Line(&[Do(I32_EQZ)]),
     If(&[
@@ -113,41 +115,41 @@ const CALL: Part = Block(&[
 ]);
 
 /// Calls a routine, where that is the form.
-const CALL_ROUTINE: Part = Sequence(&[
+const CALL_ROUTINE: Template = Sequence(&[
     Line(&[Get(KIND), I32(ROUTINE), Do(I32_EQ)]),
     If(&[DEPTH_TEST, DEEPER, CALL, Line(&[Br(1)])]),
 ]);
 
 /// Calls a body that was made for an implementation, where that is the form. It is no activation: it tests the depth itself
 /// where it enters one, and takes and gives back the frame.
-const CALL_MADE: Part = Sequence(&[
+const CALL_MADE: Template = Sequence(&[
     Line(&[Get(KIND), I32(MADE), Do(I32_EQ)]),
     If(&[CALL, Line(&[Br(1)])]),
 ]);
 
 /// Takes a frame for an iter that begins, or hands on the fault that all are taken. Where there is one, the iter goes on.
-const TAKE_FRAME: Part = Sequence(&[
+const TAKE_FRAME: Template = Sequence(&[
     Line(&[Get(FRAME), Do(I32_EQZ)]),
     IfElse(
         &[
             Line(&[Call(NEW_FRAME), Tee(FRAME), Do(I32_EQZ)]),
             If(&[
                 Line(&[I32(TOO_MANY_FRAMES), SetGlobal(FAULT_KIND)]),
-                Line(&[I32(HANDED_ON), Do(RETURN)]),
+                Line(&[I32(FORWARDED), Do(RETURN)]),
             ]),
-            Tell(FRAME, Event::Start),
+            EmitEvent(FRAME, TraceEvent::Start),
         ],
-        &[Tell(FRAME, Event::Resume)],
+        &[EmitEvent(FRAME, TraceEvent::Resume)],
     ),
 ]);
 
 /// Calls an iter, or goes on in it. Its frame is given back where it isn't suspended, and nothing is copied back then.
-const CALL_ITER: Part = Sequence(&[
+const CALL_ITER: Template = Sequence(&[
     DEPTH_TEST,
     TAKE_FRAME,
     DEEPER,
     CALL,
-    TellOutcome(FRAME, STATUS),
+    EmitOutcome(FRAME, STATUS),
     Line(&[Get(STATUS), I32(SUSPENDED), Do(I32_NE)]),
     If(&[Line(&[Get(FRAME), Call(END_FRAME), Get(STATUS), Do(RETURN)])]),
     Line(&[Get(FRAME), SetGlobal(FRAME_OUT)]),
@@ -155,7 +157,7 @@ const CALL_ITER: Part = Sequence(&[
 
 /// Calls a body and answers its status, where that is the form. Nobody reads the arguments behind a raise, so they may be put
 /// back then too.
-const CALL_BODY: Part = Sequence(&[
+const CALL_BODY: Template = Sequence(&[
     Line(&[Get(KIND), I32(MADE), Do(I32_LE_U)]),
     If(&[
         Block(&[CALL_ROUTINE, CALL_MADE, CALL_ITER]),
@@ -165,11 +167,11 @@ const CALL_BODY: Part = Sequence(&[
 ]);
 
 /// Hands on the fault of a feature without a body, where its status isn't 0.
-const ANSWER_STATUS: Part = Sequence(&[
+const ANSWER_STATUS: Template = Sequence(&[
     Line(&[Get(STATUS)]),
     If(&[
         Line(&[Get(STATUS), SetGlobal(FAULT_KIND)]),
-        Line(&[I32(HANDED_ON), Do(RETURN)]),
+        Line(&[I32(FORWARDED), Do(RETURN)]),
     ]),
     Line(&[I32(RETURNED)]),
 ]);
@@ -178,8 +180,8 @@ const ANSWER_STATUS: Part = Sequence(&[
 /// status of a body; the faults of features without one are handed on, and so are those of the depth and of the frames.
 pub(crate) fn bound_call(alloc: Global, tracing: Tracing) -> Result<Func, NoMemory> {
     let mut body = instructions(alloc, &[READ_BIND, READ_CHOSEN, SPREAD, CALL_BODY], tracing)?;
-    add_features(alloc, tracing, &mut body)?;
-    add_parts(alloc, &[ANSWER_STATUS], tracing, &mut body)?;
+    emit_features(alloc, tracing, &mut body)?;
+    emit_templates(alloc, &[ANSWER_STATUS], tracing, &mut body)?;
     Ok(Func {
         ty: CALLS_BOUND,
         locals: locals(alloc, BEHIND_BOUND)?,

@@ -6,14 +6,14 @@ use crate::builtins::BUILTINS;
 use crate::fault_numbers::VOID;
 use crate::layout::{
     CHANGED, FAULT_KIND, FIRST_ARGUMENT_AT, FIRST_AT, FIRST_BOUND_BUILTIN, FIRST_BUILTIN,
-    GET_OF_OBJECT, GET_OF_VALUE, GET_SHARED, HANDED_ON, RESULT, RETURNED, SET_OF_OBJECT,
+    FORWARDED, GET_OF_OBJECT, GET_OF_VALUE, GET_SHARED, RESULT, RETURNED, SET_OF_OBJECT,
     SET_OF_VALUE, SET_SHARED, TYPE_AT,
 };
-use crate::line::Op::{self, Br, Call, Do, Get, I32, I64, Memory, Set, SetGlobal};
-use crate::line::add_line;
 use crate::operations::TO_ADDRESS;
-use crate::parts::Part::{self, If, Line, Sequence};
-use crate::parts::{add_parts, instructions};
+use crate::template_ops::TemplateOp::{self, Br, Call, Do, Get, I32, I64, Memory, Set, SetGlobal};
+use crate::template_ops::emit_ops;
+use crate::templates::Template::{self, If, Line, Sequence};
+use crate::templates::{emit_templates, instructions};
 use crate::trace::Tracing;
 use sqlite_items::Items;
 use std::alloc::Global;
@@ -23,46 +23,46 @@ use wa_syntax::opcode::{
 use wa_syntax::{Instr, NoMemory};
 
 /// The first argument, as an operand.
-const FIRST_ARGUMENT: Part = Line(&[I32(0), Memory(I64_LOAD, FIRST_ARGUMENT_AT)]);
+const FIRST_ARGUMENT: Template = Line(&[I32(0), Memory(I64_LOAD, FIRST_ARGUMENT_AT)]);
 
 /// The second argument, as an operand.
-const SECOND_ARGUMENT: Part = Line(&[I32(0), Memory(I64_LOAD, FIRST_ARGUMENT_AT + 8)]);
+const SECOND_ARGUMENT: Template = Line(&[I32(0), Memory(I64_LOAD, FIRST_ARGUMENT_AT + 8)]);
 
 /// The number of the class, as an operand.
-const CLASS: Part = Line(&[Get(ENTRY), Memory(I32_LOAD, TYPE_AT)]);
+const CLASS: Template = Line(&[Get(ENTRY), Memory(I32_LOAD, TYPE_AT)]);
 
 /// Where the elements of an array begin, or the number of attributes, as an operand.
-const FIRST: Part = Line(&[Get(ENTRY), Memory(I32_LOAD, FIRST_AT)]);
+const FIRST: Template = Line(&[Get(ENTRY), Memory(I32_LOAD, FIRST_AT)]);
 
 /// The address of the attribute of the own object, as an operand.
-const ATTRIBUTE: Part = Line(&[Get(SELF), TO_ADDRESS, Get(INDEX), Do(I32_ADD)]);
+const ATTRIBUTE: Template = Line(&[Get(SELF), TO_ADDRESS, Get(INDEX), Do(I32_ADD)]);
 
 /// Reads the attribute.
-const READ_ATTRIBUTE: Part = Sequence(&[
+const READ_ATTRIBUTE: Template = Sequence(&[
     ATTRIBUTE,
     Line(&[Memory(I64_LOAD, 0), SetGlobal(RESULT)]),
 ]);
 
 /// Answers that the feature has returned.
-const RETURN_DONE: Part = Line(&[I32(RETURNED), Do(RETURN)]);
+const RETURN_DONE: Template = Line(&[I32(RETURNED), Do(RETURN)]);
 
 /// Hands on the fault of an own object that is void.
-const VOID_TEST: Part = Sequence(&[
+const VOID_TEST: Template = Sequence(&[
     Line(&[Get(SELF), Do(I64_EQZ)]),
     If(&[
         Line(&[I32(VOID), SetGlobal(FAULT_KIND)]),
-        Line(&[I32(HANDED_ON), Do(RETURN)]),
+        Line(&[I32(FORWARDED), Do(RETURN)]),
     ]),
 ]);
 
 /// Reads an attribute of an object.
-const READ_OF_OBJECT: Part = Sequence(&[
+const READ_OF_OBJECT: Template = Sequence(&[
     Line(&[Get(KIND), I32(GET_OF_OBJECT), Do(I32_EQ)]),
     If(&[VOID_TEST, READ_ATTRIBUTE, RETURN_DONE]),
 ]);
 
 /// Reads an attribute of an immutable value: it is void where the value is.
-const READ_OF_VALUE: Part = Sequence(&[
+const READ_OF_VALUE: Template = Sequence(&[
     Line(&[Get(KIND), I32(GET_OF_VALUE), Do(I32_EQ)]),
     If(&[
         Line(&[I64(0), SetGlobal(RESULT)]),
@@ -73,7 +73,7 @@ const READ_OF_VALUE: Part = Sequence(&[
 ]);
 
 /// Writes an attribute of an object.
-const WRITE_OF_OBJECT: Part = Sequence(&[
+const WRITE_OF_OBJECT: Template = Sequence(&[
     Line(&[Get(KIND), I32(SET_OF_OBJECT), Do(I32_EQ)]),
     If(&[
         VOID_TEST,
@@ -85,7 +85,7 @@ const WRITE_OF_OBJECT: Part = Sequence(&[
 ]);
 
 /// Makes a copy of an immutable value with another attribute, and leaves the block with its status.
-const WRITE_OF_VALUE: Part = Sequence(&[
+const WRITE_OF_VALUE: Template = Sequence(&[
     Line(&[Get(KIND), I32(SET_OF_VALUE), Do(I32_EQ)]),
     If(&[
         Line(&[Get(SELF)]),
@@ -97,7 +97,7 @@ const WRITE_OF_VALUE: Part = Sequence(&[
 ]);
 
 /// Reads a shared.
-const READ_SHARED: Part = Sequence(&[
+const READ_SHARED: Template = Sequence(&[
     Line(&[Get(KIND), I32(GET_SHARED), Do(I32_EQ)]),
     If(&[
         Line(&[Get(INDEX), Memory(I64_LOAD, 0), SetGlobal(RESULT)]),
@@ -106,7 +106,7 @@ const READ_SHARED: Part = Sequence(&[
 ]);
 
 /// Writes a shared.
-const WRITE_SHARED: Part = Sequence(&[
+const WRITE_SHARED: Template = Sequence(&[
     Line(&[Get(KIND), I32(SET_SHARED), Do(I32_EQ)]),
     If(&[
         Line(&[Get(INDEX)]),
@@ -117,7 +117,7 @@ const WRITE_SHARED: Part = Sequence(&[
 ]);
 
 /// The features that aren't built in.
-const ATTRIBUTES_AND_SHAREDS: &[Part] = &[
+const ATTRIBUTES_AND_SHAREDS: &[Template] = &[
     READ_OF_OBJECT,
     READ_OF_VALUE,
     WRITE_OF_OBJECT,
@@ -127,7 +127,7 @@ const ATTRIBUTES_AND_SHAREDS: &[Part] = &[
 ];
 
 /// What a built-in feature takes behind `self`, at the place that is the number of its type.
-const OPERANDS: [&[Part]; 6] = [
+const OPERANDS: [&[Template]; 6] = [
     &[],
     &[FIRST_ARGUMENT],
     &[FIRST_ARGUMENT, SECOND_ARGUMENT],
@@ -138,22 +138,22 @@ const OPERANDS: [&[Part]; 6] = [
 
 /// Adds a block that calls the feature. Behind it the status is 0 or the number of a fault; features that end otherwise answer
 /// at once.
-pub(crate) fn add_features(
+pub(crate) fn emit_features(
     alloc: Global,
     tracing: Tracing,
     to: &mut Items<Instr>,
 ) -> Result<(), NoMemory> {
     let mut tests = instructions(alloc, ATTRIBUTES_AND_SHAREDS, tracing)?;
     for (number, function) in BUILTINS.iter().enumerate() {
-        add_builtin(alloc, tracing, &mut tests, number as u32, function.0)?;
+        emit_builtin(alloc, tracing, &mut tests, number as u32, function.0)?;
     }
-    add_line(&mut tests, &[Do(UNREACHABLE)])?;
+    emit_ops(&mut tests, &[Do(UNREACHABLE)])?;
     to.push(Instr::block_of(alloc, None, tests)?)?;
     Ok(())
 }
 
 /// Adds the call of the built-in feature with this number, where that is the form. It leaves the block with the status.
-fn add_builtin(
+fn emit_builtin(
     alloc: Global,
     tracing: Tracing,
     to: &mut Items<Instr>,
@@ -161,18 +161,18 @@ fn add_builtin(
     ty: u32,
 ) -> Result<(), NoMemory> {
     let mut called = Items::new(alloc);
-    add_line(&mut called, &[Get(SELF)])?;
-    add_parts(alloc, operands(ty)?, tracing, &mut called)?;
+    emit_ops(&mut called, &[Get(SELF)])?;
+    emit_templates(alloc, operands(ty)?, tracing, &mut called)?;
     let function = FIRST_BUILTIN.saturating_add(number);
-    add_line(&mut called, &[Call(function), Set(STATUS), Br(1)])?;
+    emit_ops(&mut called, &[Call(function), Set(STATUS), Br(1)])?;
     let kind = FIRST_BOUND_BUILTIN.saturating_add(number);
-    add_line(to, &[Get(KIND), I32(kind), Do(I32_EQ)])?;
+    emit_ops(to, &[Get(KIND), I32(kind), Do(I32_EQ)])?;
     to.push(Instr::if_of(alloc, None, called, Items::new(alloc))?)?;
     Ok(())
 }
 
 /// What a built-in feature of the type with this number takes behind `self`.
-fn operands(ty: u32) -> Result<&'static [Part], NoMemory> {
+fn operands(ty: u32) -> Result<&'static [Template], NoMemory> {
     match OPERANDS.get(ty as usize) {
         Some(parts) => Ok(parts),
         None => Err(no_such_type()),

@@ -1,6 +1,6 @@
 //! The locals of `BOUND_CALL` by number.
 
-use crate::parts::Working;
+use crate::templates::LocalCounts;
 
 /// The parameter with the depth of the activation that calls.
 pub(crate) const DEPTH: u32 = 0;
@@ -42,4 +42,4 @@ pub(crate) const HANDED: u32 = 11;
 pub(crate) const KEPT: u32 = 12;
 
 /// All locals behind the parameters.
-pub(crate) const BEHIND_BOUND: Working = Working(1, 9);
+pub(crate) const BEHIND_BOUND: LocalCounts = LocalCounts(1, 9);

@@ -1,8 +1,8 @@
 //! The built-in features, and `FAULT` and what follows it.
 
 use crate::locals::{BEHIND_FIVE, BEHIND_FOUR, BEHIND_ONE, BEHIND_THREE, BEHIND_TWO, NONE};
-use crate::parts::Function;
 use crate::signatures::{BINARY, BINARY_ON_ARRAY, MAKES_ARRAY, TERNARY, TERNARY_ON_ARRAY, UNARY};
+use crate::templates::Function;
 use crate::{
     arrays, booleans, characters, comparisons, decimal, faults, identity, immutables, integers,
     output, texts,
@@ -54,11 +54,11 @@ pub(crate) const BUILTINS: [Function; 33] = [
     Function(MAKES_ARRAY, BEHIND_FOUR, arrays::CREATE),
 ];
 
-/// `FAULT`, `CHANGED`, `WIDENED`, `BOXED` and `UNWRAPPED`. Each has a type of its own.
+/// `FAULT`, `CHANGED`, `BOX_IMMUTABLE`, `BOX_WORD` and `UNBOX`. Each has a type of its own.
 pub(crate) const SUPPORT: [Function; 5] = [
     Function(0, BEHIND_THREE, faults::FAULT),
     Function(1, BEHIND_FIVE, immutables::CHANGED),
-    Function(2, BEHIND_THREE, immutables::WIDENED),
-    Function(3, BEHIND_TWO, immutables::BOXED),
-    Function(4, BEHIND_TWO, immutables::UNWRAPPED),
+    Function(2, BEHIND_THREE, immutables::BOX_IMMUTABLE),
+    Function(3, BEHIND_TWO, immutables::BOX_WORD),
+    Function(4, BEHIND_TWO, immutables::UNBOX),
 ];

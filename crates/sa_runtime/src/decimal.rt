@@ -2,10 +2,10 @@
 
 use crate::answers::{DONE, GIVE_ADDRESS};
 use crate::copying::WRITE_BYTE_ON;
-use crate::line::Op::{Br, BrIf, Do, Get, I32, I64, Memory, Set, Tee};
 use crate::locals::{MADE, SELF, SIZE, TO};
 use crate::operations::TO_ADDRESS;
-use crate::parts::Part::{self, Block, If, Line, Loop, Put, Sequence};
+use crate::template_ops::TemplateOp::{Br, BrIf, Do, Get, I32, I64, Memory, Set, Tee};
+use crate::templates::Template::{self, Block, If, Line, Loop, Put, Sequence};
 use crate::texts::MAKE_TEXT;
 use wa_syntax::opcode::{
     I32_ADD, I32_STORE8, I64_ADD, I64_DIV_U, I64_LT_S, I64_LT_U, I64_MUL, I64_NE, I64_REM_U,
@@ -26,35 +26,35 @@ const MINUS: u32 = 0x2d;
 const ZERO: u64 = 0x30;
 
 /// Whether the number is negative.
-const IS_NEGATIVE: Part = Line(&[Get(NUMBER), I64(0), Do(I64_LT_S)]);
+const IS_NEGATIVE: Template = Line(&[Get(NUMBER), I64(0), Do(I64_LT_S)]);
 
 /// Changes the sign of the number.
-const NEGATE: Part = Line(&[I64(0), Get(NUMBER), Do(I64_SUB), Set(NUMBER)]);
+const NEGATE: Template = Line(&[I64(0), Get(NUMBER), Do(I64_SUB), Set(NUMBER)]);
 
 /// Leaves the block around the loop where the number has no digit above the power.
-const LEAVE_AT_FIRST_DIGIT: Part = Sequence(&[
+const LEAVE_AT_FIRST_DIGIT: Template = Sequence(&[
     Line(&[Get(NUMBER), Get(POWER), Do(I64_DIV_U)]),
     Line(&[I64(10), Do(I64_LT_U), BrIf(1)]),
 ]);
 
 /// Goes on to the digit above.
-const DIGIT_ABOVE: Part = Line(&[Get(POWER), I64(10), Do(I64_MUL), Set(POWER)]);
+const DIGIT_ABOVE: Template = Line(&[Get(POWER), I64(10), Do(I64_MUL), Set(POWER)]);
 
 /// The byte of the digit at the power.
-const DIGIT: Part = Sequence(&[
+const DIGIT: Template = Sequence(&[
     Line(&[Get(NUMBER), Get(POWER), Do(I64_DIV_U)]),
     Line(&[I64(ZERO), Do(I64_ADD)]),
 ]);
 
 /// Takes that digit from the number, and goes on to the digit below: whether there is one.
-const DIGIT_BELOW: Part = Sequence(&[
+const DIGIT_BELOW: Template = Sequence(&[
     Line(&[Get(NUMBER), Get(POWER), Do(I64_REM_U), Set(NUMBER)]),
     Line(&[Get(POWER), I64(10), Do(I64_DIV_U), Tee(POWER)]),
     Line(&[I64(0), Do(I64_NE)]),
 ]);
 
 /// `INT.str`: the digits are counted, then the text is made, then they are written.
-pub(crate) const STR: &[Part] = &[
+pub(crate) const STR: &[Template] = &[
     Line(&[Get(SELF), Set(NUMBER)]),
     Line(&[I64(1), Set(POWER)]),
     Line(&[I32(1), Set(SIZE)]),
@@ -86,7 +86,7 @@ pub(crate) const STR: &[Part] = &[
 ];
 
 /// `OUT.put_int`.
-pub(crate) const PUT_INT: &[Part] = &[
+pub(crate) const PUT_INT: &[Template] = &[
     Line(&[I64(1), Set(POWER)]),
     IS_NEGATIVE,
     If(&[NEGATE, Line(&[I32(MINUS)]), Put]),

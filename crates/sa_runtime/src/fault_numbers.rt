@@ -1,6 +1,6 @@
 //! The numbers of the faults, as the module code has them.
 
-use sa_tree::FaultKind;
+use sa_ast::FaultKind;
 
 /// A result is out of range.
 pub const OVERFLOW: u32 = FaultKind::Overflow as u32;

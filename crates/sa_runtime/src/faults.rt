@@ -2,10 +2,10 @@
 
 use crate::fault_numbers::ASSERT;
 use crate::layout::{ALLOCATE, EXCEPTION, EXCEPTION_KIND, EXCEPTION_PLACE, FAULT_TYPE, STOP};
-use crate::line::Op::{BrIf, Call, Do, Get, I32, I64, Memory, SetGlobal, Tee};
 use crate::locals::MADE;
 use crate::operations::TO_WORD;
-use crate::parts::Part::{self, Block, Line};
+use crate::template_ops::TemplateOp::{BrIf, Call, Do, Get, I32, I64, Memory, SetGlobal, Tee};
+use crate::templates::Template::{self, Block, Line};
 use wa_syntax::opcode::{I32_EQZ, I32_GT_U, I64_STORE, RETURN};
 
 /// The parameter with the number of the fault.
@@ -21,7 +21,7 @@ const LINE: u32 = 2;
 const BYTES: u64 = 24;
 
 /// `FAULT`. Where the room lacks for the exception, the program stops.
-pub(crate) const FAULT: &[Part] = &[
+pub(crate) const FAULT: &[Template] = &[
     Block(&[
         Line(&[Get(KIND), I32(ASSERT), Do(I32_GT_U), BrIf(0)]),
         Line(&[I64(FAULT_TYPE as u64), I64(BYTES), Call(ALLOCATE)]),

@@ -2,21 +2,21 @@
 
 use crate::answers::{DONE, GIVE_ADDRESS, NO_ROOM_IF};
 use crate::copying::{COPY_WORDS, LEAVE_WITHOUT_BYTE, READ_WORD_ON, WORD_IS_DONE};
-use crate::layout::{ALLOCATE, RESULT, UNWRAPPED as UNWRAP, WIDENED_VALUE};
-use crate::line::Op::{Br, Call, Do, Get, I32, I64, Memory, Set, SetGlobal, Tee};
+use crate::layout::{ALLOCATE, BOXED_VALUE, RESULT, UNBOX as UNWRAP};
 use crate::locals::{FIRST, FROM, LEFT, MADE, SELF, TO};
 use crate::operations::{TO_ADDRESS, TO_WORD};
-use crate::parts::Part::{self, Block, If, Line, Loop, Sequence};
+use crate::template_ops::TemplateOp::{Br, Call, Do, Get, I32, I64, Memory, Set, SetGlobal, Tee};
+use crate::templates::Template::{self, Block, If, Line, Loop, Sequence};
 use wa_syntax::opcode::{
     I32_ADD, I32_EQZ, I32_SHL, I64_ADD, I64_LOAD, I64_NE, I64_OR, I64_STORE, RETURN,
 };
 
 /// The header of a widened value without the number of its type.
-const WIDENED_HEADER: u64 = 0x0100_0000 * WIDENED_VALUE as u64;
+const BOXED_HEADER: u64 = 0x0100_0000 * BOXED_VALUE as u64;
 
 /// Takes the header of an object from the stack, makes the object with `LEFT` bytes of fields, and copies them from the value
 /// unless it is void, or ends by `no room`.
-const MAKE_COPY: Part = Sequence(&[
+const MAKE_COPY: Template = Sequence(&[
     Line(&[Get(LEFT), TO_WORD, I64(8), Do(I64_ADD)]),
     Line(&[Call(ALLOCATE), Tee(MADE), Do(I32_EQZ)]),
     NO_ROOM_IF,
@@ -30,7 +30,7 @@ const MAKE_COPY: Part = Sequence(&[
 
 /// `CHANGED`, of the value, the field, the type, the number of attributes, and how many bytes the address of the value stands
 /// before the field. The copy is charged, even where all its fields are void.
-pub(crate) const CHANGED: &[Part] = &[
+pub(crate) const CHANGED: &[Template] = &[
     Line(&[Get(3), I32(3), Do(I32_SHL), Set(LEFT)]),
     Line(&[Get(2), TO_WORD]),
     MAKE_COPY,
@@ -41,18 +41,18 @@ pub(crate) const CHANGED: &[Part] = &[
     DONE,
 ];
 
-/// `WIDENED`, of the value, the type and the number of attributes.
-pub(crate) const WIDENED: &[Part] = &[
+/// `BOX_IMMUTABLE`, of the value, the type and the number of attributes.
+pub(crate) const BOX_IMMUTABLE: &[Template] = &[
     Line(&[Get(2), I32(3), Do(I32_SHL), Set(LEFT)]),
-    Line(&[Get(1), TO_WORD, I64(WIDENED_HEADER), Do(I64_OR)]),
+    Line(&[Get(1), TO_WORD, I64(BOXED_HEADER), Do(I64_OR)]),
     MAKE_COPY,
     Line(&[Get(MADE)]),
     GIVE_ADDRESS,
 ];
 
-/// `BOXED`, of the word and the type.
-pub(crate) const BOXED: &[Part] = &[
-    Line(&[Get(1), TO_WORD, I64(WIDENED_HEADER), Do(I64_OR)]),
+/// `BOX_WORD`, of the word and the type.
+pub(crate) const BOX_WORD: &[Template] = &[
+    Line(&[Get(1), TO_WORD, I64(BOXED_HEADER), Do(I64_OR)]),
     Line(&[I64(16), Call(ALLOCATE), Tee(MADE), Do(I32_EQZ)]),
     NO_ROOM_IF,
     Line(&[Get(MADE), Get(SELF), Memory(I64_STORE, 8)]),
@@ -60,8 +60,8 @@ pub(crate) const BOXED: &[Part] = &[
     GIVE_ADDRESS,
 ];
 
-/// `UNWRAPPED`, of the address and the number of attributes: the address where a field isn't void, else 0.
-pub(crate) const UNWRAPPED: &[Part] = &[
+/// `UNBOX`, of the address and the number of attributes: the address where a field isn't void, else 0.
+pub(crate) const UNBOX: &[Template] = &[
     Line(&[Get(SELF), TO_ADDRESS, Set(FROM)]),
     Line(&[Get(1), I32(3), Do(I32_SHL), Set(LEFT)]),
     Block(&[Loop(&[

@@ -2,10 +2,10 @@
 
 use crate::answers::{DIV_ZERO_IF, GIVE_WORD, OVERFLOW_IF};
 use crate::layout::RESULT;
-use crate::line::Op::{Do, Get, I64, SetGlobal, Tee};
 use crate::locals::{FIRST, SELF};
 use crate::operations::TO_ADDRESS;
-use crate::parts::Part::{self, Line, Sequence};
+use crate::template_ops::TemplateOp::{Do, Get, I64, SetGlobal, Tee};
+use crate::templates::Template::{self, Line, Sequence};
 use wa_syntax::opcode::{
     I64_ADD, I64_AND, I64_DIV_S, I64_EQZ, I64_EXTEND_I32_S, I64_GT_U, I64_MUL, I64_NE, I64_OR,
     I64_REM_S, I64_SUB, I64_XOR,
@@ -13,26 +13,26 @@ use wa_syntax::opcode::{
 
 /// Ends a feature that gives this number, or by `overflow` where it isn't the extension of its low half: the comparison is
 /// the status, since `overflow` has the number 1.
-const GIVE_IN_RANGE: Part = Sequence(&[
+const GIVE_IN_RANGE: Template = Sequence(&[
     Line(&[Tee(SELF), SetGlobal(RESULT)]),
     Line(&[Get(SELF), TO_ADDRESS, Do(I64_EXTEND_I32_S)]),
     Line(&[Get(SELF), Do(I64_NE)]),
 ]);
 
 /// `INT.plus`.
-pub(crate) const PLUS: &[Part] = &[Line(&[Get(SELF), Get(FIRST), Do(I64_ADD)]), GIVE_IN_RANGE];
+pub(crate) const PLUS: &[Template] = &[Line(&[Get(SELF), Get(FIRST), Do(I64_ADD)]), GIVE_IN_RANGE];
 
 /// `INT.minus`.
-pub(crate) const MINUS: &[Part] = &[Line(&[Get(SELF), Get(FIRST), Do(I64_SUB)]), GIVE_IN_RANGE];
+pub(crate) const MINUS: &[Template] = &[Line(&[Get(SELF), Get(FIRST), Do(I64_SUB)]), GIVE_IN_RANGE];
 
 /// `INT.times`.
-pub(crate) const TIMES: &[Part] = &[Line(&[Get(SELF), Get(FIRST), Do(I64_MUL)]), GIVE_IN_RANGE];
+pub(crate) const TIMES: &[Template] = &[Line(&[Get(SELF), Get(FIRST), Do(I64_MUL)]), GIVE_IN_RANGE];
 
 /// `INT.negate`.
-pub(crate) const NEGATE: &[Part] = &[Line(&[I64(0), Get(SELF), Do(I64_SUB)]), GIVE_IN_RANGE];
+pub(crate) const NEGATE: &[Template] = &[Line(&[I64(0), Get(SELF), Do(I64_SUB)]), GIVE_IN_RANGE];
 
 /// `INT.div`, which rounds towards zero. The quotient of the least number by -1 is out of range.
-pub(crate) const DIV: &[Part] = &[
+pub(crate) const DIV: &[Template] = &[
     Line(&[Get(FIRST), Do(I64_EQZ)]),
     DIV_ZERO_IF,
     Line(&[Get(SELF), Get(FIRST), Do(I64_DIV_S)]),
@@ -40,7 +40,7 @@ pub(crate) const DIV: &[Part] = &[
 ];
 
 /// `INT.mod`, which has the sign of `self`.
-pub(crate) const MOD: &[Part] = &[
+pub(crate) const MOD: &[Template] = &[
     Line(&[Get(FIRST), Do(I64_EQZ)]),
     DIV_ZERO_IF,
     Line(&[Get(SELF), Get(FIRST), Do(I64_REM_S)]),
@@ -48,16 +48,16 @@ pub(crate) const MOD: &[Part] = &[
 ];
 
 /// `INT.band`.
-pub(crate) const BAND: &[Part] = &[Line(&[Get(SELF), Get(FIRST), Do(I64_AND)]), GIVE_WORD];
+pub(crate) const BAND: &[Template] = &[Line(&[Get(SELF), Get(FIRST), Do(I64_AND)]), GIVE_WORD];
 
 /// `INT.bor`.
-pub(crate) const BOR: &[Part] = &[Line(&[Get(SELF), Get(FIRST), Do(I64_OR)]), GIVE_WORD];
+pub(crate) const BOR: &[Template] = &[Line(&[Get(SELF), Get(FIRST), Do(I64_OR)]), GIVE_WORD];
 
 /// `INT.bxor`.
-pub(crate) const BXOR: &[Part] = &[Line(&[Get(SELF), Get(FIRST), Do(I64_XOR)]), GIVE_WORD];
+pub(crate) const BXOR: &[Template] = &[Line(&[Get(SELF), Get(FIRST), Do(I64_XOR)]), GIVE_WORD];
 
 /// `INT.char`. As a number without sign a negative word is greater than 255.
-pub(crate) const CHAR: &[Part] = &[
+pub(crate) const CHAR: &[Template] = &[
     Line(&[Get(SELF), I64(255), Do(I64_GT_U)]),
     OVERFLOW_IF,
     Line(&[Get(SELF)]),

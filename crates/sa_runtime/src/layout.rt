@@ -58,13 +58,13 @@ pub const FAULT: u32 = 37;
 pub const CHANGED: u32 = 38;
 
 /// The function that widens a value of an immutable class that a program declares.
-pub const WIDENED: u32 = 39;
+pub const BOX_IMMUTABLE: u32 = 39;
 
 /// The function that widens an `INT`, a `BOOL` or a `CHAR`.
-pub const BOXED: u32 = 40;
+pub const BOX_WORD: u32 = 40;
 
 /// The function that gives the immutable value that was widened.
-pub const UNWRAPPED: u32 = 41;
+pub const UNBOX: u32 = 41;
 
 /// The function that takes a frame and gives its address, or 0 where all are taken.
 pub const NEW_FRAME: u32 = 42;
@@ -79,7 +79,7 @@ pub const RELEASE: u32 = 44;
 pub const BOUND_CALL: u32 = 45;
 
 /// The first of the functions that put frames of the trace, which follow one another.
-pub const FIRST_TELLER: u32 = 46;
+pub const FIRST_TRACE_FUNCTION: u32 = 46;
 
 /// How many functions there are, the imported ones with them.
 pub const FUNCTIONS: u32 = 50;
@@ -105,7 +105,7 @@ pub const SUSPENDED: u32 = 2;
 pub const ENDED: u32 = 3;
 
 /// The status of a body that hands on a fault, whose number is in `FAULT_KIND`.
-pub const HANDED_ON: u32 = 4;
+pub const FORWARDED: u32 = 4;
 
 /// How deep activations may nest.
 pub const GREATEST_DEPTH: u32 = 10_000;
@@ -134,7 +134,7 @@ pub const CALLED_AT: u32 = 24;
 pub(crate) const TRACED_SITE_AT: u32 = 28;
 
 /// The word of a frame with the first of the variables that are kept.
-pub const FIRST_KEPT_AT: u32 = 32;
+pub const FIRST_SAVED_AT: u32 = 32;
 
 /// How many words a frame has besides the variables that are kept.
 pub const FRAME_WORDS: u32 = 4;
@@ -170,7 +170,7 @@ pub const CHOSEN_ROUTINE: u32 = 0;
 
 pub const CHOSEN_ITER: u32 = 1;
 
-pub const CHOSEN_MADE: u32 = 2;
+pub const CHOSEN_ADAPTER: u32 = 2;
 
 /// A routine, an iter, or a body that was made for an implementation, by its place in the table.
 pub const ROUTINE: u32 = 3;
@@ -212,7 +212,7 @@ pub const OBJECT: u8 = 0;
 pub const TEXT: u8 = 1;
 
 /// The tag of an immutable value at an abstract type.
-pub(crate) const WIDENED_VALUE: u8 = 2;
+pub(crate) const BOXED_VALUE: u8 = 2;
 
 /// The tag of a bound value.
 pub const BOUND: u8 = 3;
@@ -226,10 +226,10 @@ pub const LOW_HALF: u64 = 0xffff_ffff;
 
 /// The high half of a value that a bind has widened for an implementation, where the type in the signature is immutable. No value
 /// of such a type has this high half.
-pub const WIDENED_HALF: u64 = 1;
+pub const BOXED_HALF: u64 = 1;
 
 /// What marks such a value: this high half above the low one.
-pub const WIDENED_MARK: u64 = 0x1_0000_0000 * WIDENED_HALF;
+pub const BOXED_MARK: u64 = 0x1_0000_0000 * BOXED_HALF;
 
 /// The number of the type `BOOL`.
 pub const BOOL: u32 = 3;

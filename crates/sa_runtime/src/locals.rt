@@ -1,7 +1,7 @@
 //! The locals by number. Functions that share a part of their bodies have its locals at the same numbers: no function has more
 //! than five parameters, so the addresses and counts that they work with begin at 5.
 
-use crate::parts::Working;
+use crate::templates::LocalCounts;
 
 /// `self`, or the first parameter of a function that isn't a feature.
 pub(crate) const SELF: u32 = 0;
@@ -28,19 +28,19 @@ pub(crate) const TO: u32 = 8;
 pub(crate) const LEFT: u32 = 9;
 
 /// No locals beside the parameters.
-pub(crate) const NONE: Working = Working(0, 0);
+pub(crate) const NONE: LocalCounts = LocalCounts(0, 0);
 
 /// All locals behind one parameter.
-pub(crate) const BEHIND_ONE: Working = Working(4, 5);
+pub(crate) const BEHIND_ONE: LocalCounts = LocalCounts(4, 5);
 
 /// All locals behind two parameters.
-pub(crate) const BEHIND_TWO: Working = Working(3, 5);
+pub(crate) const BEHIND_TWO: LocalCounts = LocalCounts(3, 5);
 
 /// All locals behind three parameters.
-pub(crate) const BEHIND_THREE: Working = Working(2, 5);
+pub(crate) const BEHIND_THREE: LocalCounts = LocalCounts(2, 5);
 
 /// All locals behind four parameters.
-pub(crate) const BEHIND_FOUR: Working = Working(1, 5);
+pub(crate) const BEHIND_FOUR: LocalCounts = LocalCounts(1, 5);
 
 /// All locals behind five parameters.
-pub(crate) const BEHIND_FIVE: Working = Working(0, 5);
+pub(crate) const BEHIND_FIVE: LocalCounts = LocalCounts(0, 5);

@@ -5,14 +5,14 @@ use crate::copying::{
     BYTE_IS_DONE, LEAVE_WITHOUT_BYTE, LEAVE_WITHOUT_WORD, READ_BYTE_ON, READ_WORD_ON, WORD_IS_DONE,
 };
 use crate::layout;
-use crate::line::Op::{Br, Call, Do, Get, Memory, Set, Tee};
 use crate::locals::{FIRST, FROM, LEFT};
 use crate::operations::{LOAD_COUNT, TO_ADDRESS};
-use crate::parts::Part::{self, Block, Line, Loop, Put, Sequence};
+use crate::template_ops::TemplateOp::{Br, Call, Do, Get, Memory, Set, Tee};
+use crate::templates::Template::{self, Block, Line, Loop, Put, Sequence};
 use wa_syntax::opcode::{I32_LOAD8_U, I64_EXTEND_I32_S};
 
 /// Writes 8 bytes.
-const PUT_EIGHT: Part = Sequence(&[
+const PUT_EIGHT: Template = Sequence(&[
     Line(&[Get(FROM), Memory(I32_LOAD8_U, 8)]),
     Put,
     Line(&[Get(FROM), Memory(I32_LOAD8_U, 9)]),
@@ -32,7 +32,7 @@ const PUT_EIGHT: Part = Sequence(&[
 ]);
 
 /// `OUT.put`.
-pub(crate) const PUT: &[Part] = &[
+pub(crate) const PUT: &[Template] = &[
     Line(&[Get(FIRST), TO_ADDRESS, Tee(FROM)]),
     Line(&[LOAD_COUNT, Set(LEFT)]),
     Block(&[Loop(&[
@@ -54,7 +54,10 @@ pub(crate) const PUT: &[Part] = &[
 ];
 
 /// `OUT.put_char`.
-pub(crate) const PUT_CHAR: &[Part] = &[Line(&[Get(FIRST), TO_ADDRESS]), Put, DONE];
+pub(crate) const PUT_CHAR: &[Template] = &[Line(&[Get(FIRST), TO_ADDRESS]), Put, DONE];
 
 /// `IN.get_byte`.
-pub(crate) const GET_BYTE: &[Part] = &[Line(&[Call(layout::GET), Do(I64_EXTEND_I32_S)]), GIVE_WORD];
+pub(crate) const GET_BYTE: &[Template] = &[
+    Line(&[Call(layout::GET), Do(I64_EXTEND_I32_S)]),
+    GIVE_WORD,
+];

@@ -1,12 +1,12 @@
 //! The memory of objects: they are handed out one after the other, up to the end of the room, and never taken back.
 
 use crate::layout::NEXT_OBJECT;
-use crate::line::Op::{self, Do, Get, GetGlobal, I32, Memory, SetGlobal, Tee};
-use crate::line::add_line;
 use crate::operations::{TO_ADDRESS, TO_WORD};
-use crate::parts::Part::{self, If, Line};
-use crate::parts::add_parts;
 use crate::signatures::BINARY;
+use crate::template_ops::TemplateOp::{self, Do, Get, GetGlobal, I32, Memory, SetGlobal, Tee};
+use crate::template_ops::emit_ops;
+use crate::templates::Template::{self, If, Line};
+use crate::templates::emit_templates;
 use crate::trace::Tracing;
 use sqlite_items::Items;
 use std::alloc::Global;
@@ -20,7 +20,7 @@ const HEADER: u32 = 0;
 const END: u32 = 1;
 
 /// Answers 0 where the operand isn't 0; else stores the header, and answers the object's address.
-const HAND_OUT: &[Part] = &[
+const HAND_OUT: &[Template] = &[
     If(&[Line(&[I32(0), Do(RETURN)])]),
     Line(&[GetGlobal(NEXT_OBJECT), Get(HEADER)]),
     Line(&[Memory(I64_STORE, 0), GetGlobal(NEXT_OBJECT)]),
@@ -37,10 +37,10 @@ pub(crate) fn allocate(alloc: Global, room_end: u64, tracing: Tracing) -> Result
         Do(I64_ADD),
         Tee(END),
     ];
-    add_line(&mut body, &object_end)?;
-    let passes_room = [Op::I64(room_end), Do(I64_GT_U)];
-    add_line(&mut body, &passes_room)?;
-    add_parts(alloc, HAND_OUT, tracing, &mut body)?;
+    emit_ops(&mut body, &object_end)?;
+    let passes_room = [TemplateOp::I64(room_end), Do(I64_GT_U)];
+    emit_ops(&mut body, &passes_room)?;
+    emit_templates(alloc, HAND_OUT, tracing, &mut body)?;
     Ok(Func {
         ty: BINARY,
         locals: Locals::new(alloc),

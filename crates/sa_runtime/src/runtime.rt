@@ -5,11 +5,11 @@ ghost use Rattle.std.specs.Prelude.{◌≡◌, length, IfOk};
 use crate::bound::bound_call;
 use crate::builtins::{BUILTINS, SUPPORT};
 use crate::frame::RELEASE;
-use crate::parts::{func, functions, types};
 use crate::room::allocate;
-use crate::signatures::{BUILTIN_TYPES, FRAME_TYPES, SUPPORT_TYPES, TELLER_TYPES};
-use crate::telling::teller_functions;
-use crate::trace::{Tellers, Tracing};
+use crate::signatures::{BUILTIN_TYPES, FRAME_TYPES, SUPPORT_TYPES, TRACE_TYPES};
+use crate::templates::{func, functions, types};
+use crate::trace::{TraceFunctions, Tracing};
+use crate::trace_functions::event_functions;
 use sqlite_items::Items;
 use std::alloc::Global;
 use wa_syntax::{Func, FuncTy, NoMemory};
@@ -34,7 +34,7 @@ pub fn code(alloc: Global, base: u32, room: u32, tracing: Tracing) -> Result<Run
     Ok(RuntimeCode { types, funcs })
 }
 
-/// The functions `FAULT`, `CHANGED`, `WIDENED`, `BOXED` and `UNWRAPPED`, in this order. Fails where memory runs out.
+/// The functions `FAULT`, `CHANGED`, `BOX_IMMUTABLE`, `BOX_WORD` and `UNBOX`, in this order. Fails where memory runs out.
 pub fn support(alloc: Global, tracing: Tracing) -> Result<RuntimeCode, NoMemory>
     ensures { IfOk result (λ code. length code.funcs ≡ 5) }
 {
@@ -55,13 +55,17 @@ pub fn frames(alloc: Global, tracing: Tracing) -> Result<RuntimeCode, NoMemory>
     Ok(RuntimeCode { types, funcs })
 }
 
-/// The functions of a traced module that put frames of the trace, in the order of `Tellers`, whose numbers they have, where the slots of
+/// The functions of a traced module that put frames of the trace, in the order of `TraceFunctions`, whose numbers they have, where the slots of
 /// the pool have so many bytes. Fails where memory runs out.
-pub fn trace_code(alloc: Global, tellers: Tellers, slot_bytes: u32) -> Result<RuntimeCode, NoMemory>
+pub fn trace_code(
+    alloc: Global,
+    tellers: TraceFunctions,
+    slot_bytes: u32,
+) -> Result<RuntimeCode, NoMemory>
     ensures { IfOk result (λ code. length code.funcs ≡ 4) }
 {
     Ok(RuntimeCode {
-        types: types(alloc, &TELLER_TYPES)?,
-        funcs: teller_functions(alloc, tellers, slot_bytes)?,
+        types: types(alloc, &TRACE_TYPES)?,
+        funcs: event_functions(alloc, tellers, slot_bytes)?,
     })
 }

@@ -4,34 +4,34 @@ use wa_syntax::ValTy::{self, I32, I64};
 
 /// The type of a function.
 #[derive(Clone, Copy)]
-pub(crate) struct Signature {
+pub(crate) struct FnSignature {
     pub params: &'static [ValTy],
     pub results: &'static [ValTy],
 }
 
 /// The types of the built-in features and of `ALLOCATE`. A feature takes `self` and its arguments, and answers a status.
-pub(crate) const BUILTIN_TYPES: [Signature; 6] = [
-    Signature {
+pub(crate) const BUILTIN_TYPES: [FnSignature; 6] = [
+    FnSignature {
         params: &[I64],
         results: &[I32],
     },
-    Signature {
+    FnSignature {
         params: &[I64, I64],
         results: &[I32],
     },
-    Signature {
+    FnSignature {
         params: &[I64, I64, I64],
         results: &[I32],
     },
-    Signature {
+    FnSignature {
         params: &[I64, I64, I32],
         results: &[I32],
     },
-    Signature {
+    FnSignature {
         params: &[I64, I64, I64, I32],
         results: &[I32],
     },
-    Signature {
+    FnSignature {
         params: &[I64, I64, I32, I32],
         results: &[I32],
     },
@@ -55,37 +55,37 @@ pub(crate) const TERNARY_ON_ARRAY: u32 = 4;
 /// The type of a feature with one argument that is told the type of an array and where its elements begin.
 pub(crate) const MAKES_ARRAY: u32 = 5;
 
-/// The types of `FAULT`, `CHANGED`, `WIDENED`, `BOXED` and `UNWRAPPED`, in this order.
-pub(crate) const SUPPORT_TYPES: [Signature; 5] = [
-    Signature {
+/// The types of `FAULT`, `CHANGED`, `BOX_IMMUTABLE`, `BOX_WORD` and `UNBOX`, in this order.
+pub(crate) const SUPPORT_TYPES: [FnSignature; 5] = [
+    FnSignature {
         params: &[I32, I32, I32],
         results: &[],
     },
-    Signature {
+    FnSignature {
         params: &[I64, I64, I32, I32, I32],
         results: &[I32],
     },
-    Signature {
+    FnSignature {
         params: &[I64, I32, I32],
         results: &[I32],
     },
-    Signature {
+    FnSignature {
         params: &[I64, I32],
         results: &[I32],
     },
-    Signature {
+    FnSignature {
         params: &[I64, I32],
         results: &[I64],
     },
 ];
 
 /// The types of `RELEASE` and of `BOUND_CALL`.
-pub(crate) const FRAME_TYPES: [Signature; 2] = [
-    Signature {
+pub(crate) const FRAME_TYPES: [FnSignature; 2] = [
+    FnSignature {
         params: &[I32],
         results: &[],
     },
-    Signature {
+    FnSignature {
         params: &[I32, I32, I32],
         results: &[I32],
     },
@@ -98,19 +98,19 @@ pub(crate) const GIVES_FRAME: u32 = 0;
 pub(crate) const CALLS_BOUND: u32 = 1;
 
 /// The types of the functions of a traced module that put frames.
-pub(crate) const TELLER_TYPES: [Signature; 2] = [
-    Signature {
+pub(crate) const TRACE_TYPES: [FnSignature; 2] = [
+    FnSignature {
         params: &[I32],
         results: &[],
     },
-    Signature {
+    FnSignature {
         params: &[I32, I32],
         results: &[],
     },
 ];
 
 /// The type of a function that tells of a byte, or of the frame of an instance.
-pub(crate) const TELLS: u32 = 0;
+pub(crate) const TRACES: u32 = 0;
 
 /// The type of a function that tells of the frame of an instance by the number of an event or a status.
-pub(crate) const TELLS_BY_NUMBER: u32 = 1;
+pub(crate) const TRACES_BY_NUMBER: u32 = 1;

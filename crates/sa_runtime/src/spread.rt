@@ -3,8 +3,8 @@
 
 use crate::bound_locals::{AT, ENTRY, GIVEN, HANDED, KEPT, OBJECT, PLACE};
 use crate::layout::{COUNT_AT, FIRST_ARGUMENT_AT, GIVEN_AT, OPEN_AT};
-use crate::line::Op::{self, Br, BrIf, Do, Get, I32, Memory, Set, Tee};
-use crate::parts::Part::{self, Block, If, Line, Loop, Sequence};
+use crate::template_ops::TemplateOp::{self, Br, BrIf, Do, Get, I32, Memory, Set, Tee};
+use crate::templates::Template::{self, Block, If, Line, Loop, Sequence};
 use wa_syntax::opcode::{
     I32_ADD, I32_LOAD, I32_LOAD8_U, I32_LT_U, I32_SHL, I32_SUB, I64_LOAD, I64_STORE,
 };
@@ -13,13 +13,13 @@ use wa_syntax::opcode::{
 const FIRST_KEPT_ARGUMENT_AT: u32 = 16;
 
 /// Reads an argument in the area.
-const LOAD_ARGUMENT: Op = Memory(I64_LOAD, FIRST_ARGUMENT_AT);
+const LOAD_ARGUMENT: TemplateOp = Memory(I64_LOAD, FIRST_ARGUMENT_AT);
 
 /// Writes an argument in the area.
-const STORE_ARGUMENT: Op = Memory(I64_STORE, FIRST_ARGUMENT_AT);
+const STORE_ARGUMENT: TemplateOp = Memory(I64_STORE, FIRST_ARGUMENT_AT);
 
 /// Whether the argument at the place is open.
-const IS_OPEN: Part = Line(&[
+const IS_OPEN: Template = Line(&[
     Get(ENTRY),
     Get(PLACE),
     Do(I32_ADD),
@@ -27,7 +27,7 @@ const IS_OPEN: Part = Line(&[
 ]);
 
 /// Begins behind the last argument.
-const FROM_THE_END: Part = Sequence(&[
+const FROM_THE_END: Template = Sequence(&[
     Line(&[Get(ENTRY), Memory(I32_LOAD, COUNT_AT), Tee(PLACE)]),
     Line(&[I32(3), Do(I32_SHL), Tee(AT)]),
     Line(&[Get(GIVEN), I32(3), Do(I32_SHL), Tee(KEPT)]),
@@ -36,27 +36,27 @@ const FROM_THE_END: Part = Sequence(&[
 ]);
 
 /// Goes to the argument before.
-const ONE_BACK: Part = Sequence(&[
+const ONE_BACK: Template = Sequence(&[
     Line(&[Get(PLACE), I32(1), Do(I32_SUB), Set(PLACE)]),
     Line(&[Get(AT), I32(8), Do(I32_SUB), Set(AT)]),
 ]);
 
 /// Puts the last kept argument that isn't in its place yet there.
-const PUT_KEPT: Part = Sequence(&[
+const PUT_KEPT: Template = Sequence(&[
     Line(&[Get(KEPT), I32(8), Do(I32_SUB), Set(KEPT)]),
     Line(&[Get(AT), Get(KEPT)]),
     Line(&[Memory(I64_LOAD, FIRST_KEPT_ARGUMENT_AT), STORE_ARGUMENT]),
 ]);
 
 /// Puts the last argument that was handed over and isn't in its place yet there.
-const PUT_HANDED: Part = Sequence(&[
+const PUT_HANDED: Template = Sequence(&[
     Line(&[Get(HANDED), I32(8), Do(I32_SUB), Set(HANDED)]),
     Line(&[Get(AT), Get(HANDED), LOAD_ARGUMENT, STORE_ARGUMENT]),
 ]);
 
 /// Puts each argument in its place, where the bound value keeps some. An argument's place is never before the one where it was
 /// handed over, so they go from the last to the first, and none is overwritten before it is read.
-pub(crate) const SPREAD: Part = Sequence(&[
+pub(crate) const SPREAD: Template = Sequence(&[
     Line(&[Get(ENTRY), Memory(I32_LOAD, GIVEN_AT), Tee(GIVEN)]),
     If(&[
         FROM_THE_END,
@@ -72,13 +72,13 @@ pub(crate) const SPREAD: Part = Sequence(&[
 ]);
 
 /// Puts the argument at the place back to where it was handed over.
-const TAKE_BACK: Part = Sequence(&[
+const TAKE_BACK: Template = Sequence(&[
     Line(&[Get(HANDED), Get(AT), LOAD_ARGUMENT, STORE_ARGUMENT]),
     Line(&[Get(HANDED), I32(8), Do(I32_ADD), Set(HANDED)]),
 ]);
 
 /// Goes to the next argument: whether there is one.
-const ONE_ON: Part = Sequence(&[
+const ONE_ON: Template = Sequence(&[
     Line(&[Get(AT), I32(8), Do(I32_ADD), Set(AT)]),
     Line(&[Get(PLACE), I32(1), Do(I32_ADD), Tee(PLACE)]),
     Line(&[Get(ENTRY), Memory(I32_LOAD, COUNT_AT), Do(I32_LT_U)]),
@@ -86,7 +86,7 @@ const ONE_ON: Part = Sequence(&[
 
 /// Puts each open argument back to where it was handed over, where the bound value keeps some, from the first to the last: the
 /// caller finds there what is copied back.
-pub(crate) const GATHER: Part = Sequence(&[
+pub(crate) const GATHER: Template = Sequence(&[
     Line(&[Get(GIVEN)]),
     If(&[
         Line(&[I32(0), Tee(PLACE), Tee(AT), Set(HANDED)]),

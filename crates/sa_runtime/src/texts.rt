@@ -7,10 +7,10 @@ use crate::copying::{
 };
 use crate::fault_numbers::NO_ROOM;
 use crate::layout::{ALLOCATE, STR, TEXT};
-use crate::line::Op::{Br, BrIf, Call, Do, Get, I32, I64, Memory, Set, Tee};
 use crate::locals::{FIRST, FROM, LEFT, MADE, SECOND, SELF, SIZE, TO};
 use crate::operations::{LOAD_COUNT, LOAD_LENGTH, TO_ADDRESS, TO_WORD};
-use crate::parts::Part::{self, Block, If, Line, Loop, Sequence};
+use crate::template_ops::TemplateOp::{Br, BrIf, Call, Do, Get, I32, I64, Memory, Set, Tee};
+use crate::templates::Template::{self, Block, If, Line, Loop, Sequence};
 use wa_syntax::opcode::{
     I32_ADD, I32_EQZ, I32_GT_S, I32_LOAD8_U, I32_OR, I32_STORE8, I32_SUB, I64_ADD, I64_AND,
     I64_GE_U, I64_GT_S, I64_GT_U, I64_LOAD8_U, I64_LT_S, I64_OR, I64_SHL, RETURN,
@@ -20,7 +20,7 @@ use wa_syntax::opcode::{
 const TEXT_HEADER: u64 = STR as u64 + 0x0100_0000 * TEXT as u64;
 
 /// Makes a text of so many bytes, all 0: whether there was no room for it. Its header and its bytes are filled up to whole words.
-const ALLOCATE_TEXT: Part = Sequence(&[
+const ALLOCATE_TEXT: Template = Sequence(&[
     Line(&[Get(SIZE), TO_WORD, I64(32), Do(I64_SHL)]),
     Line(&[I64(TEXT_HEADER), Do(I64_OR)]),
     Line(&[Get(SIZE), TO_WORD, I64(15), Do(I64_ADD)]),
@@ -29,26 +29,26 @@ const ALLOCATE_TEXT: Part = Sequence(&[
 ]);
 
 /// Makes a short text of so many bytes, all 0, or ends the feature by `no room`.
-pub(crate) const MAKE_TEXT: Part = Sequence(&[ALLOCATE_TEXT, NO_ROOM_IF]);
+pub(crate) const MAKE_TEXT: Template = Sequence(&[ALLOCATE_TEXT, NO_ROOM_IF]);
 
 /// Goes round once for each 8 bytes that the text begins, and once for none. No text has 2^31 bytes.
-const SPEND_TURNS: Part = Loop(&[
+const SPEND_TURNS: Template = Loop(&[
     Line(&[Get(SIZE), I32(8), Do(I32_SUB), Tee(SIZE)]),
     Line(&[I32(0), Do(I32_GT_S), BrIf(0)]),
 ]);
 
 /// Makes a text of so many bytes, all 0, for a feature that spends a turn for each 8 bytes that the text begins, or ends the
 /// feature by `no room`. The turns are spent before the room is asked for, so they have their instructions there too.
-const MAKE_LONG_TEXT: Part = Sequence(&[
+const MAKE_LONG_TEXT: Template = Sequence(&[
     ALLOCATE_TEXT,
     If(&[SPEND_TURNS, Line(&[I32(NO_ROOM), Do(RETURN)])]),
 ]);
 
 /// `STR.size`.
-pub(crate) const LENGTH: &[Part] = &[Line(&[Get(SELF), TO_ADDRESS, LOAD_LENGTH]), GIVE_WORD];
+pub(crate) const LENGTH: &[Template] = &[Line(&[Get(SELF), TO_ADDRESS, LOAD_LENGTH]), GIVE_WORD];
 
 /// `STR.aget`. As a number without sign a negative place is greater than each length.
-pub(crate) const AGET: &[Part] = &[
+pub(crate) const AGET: &[Template] = &[
     Line(&[Get(FIRST), Get(SELF), TO_ADDRESS, LOAD_LENGTH]),
     Line(&[Do(I64_GE_U)]),
     INDEX_IF,
@@ -58,7 +58,7 @@ pub(crate) const AGET: &[Part] = &[
 ];
 
 /// `STR.cat`.
-pub(crate) const CAT: &[Part] = &[
+pub(crate) const CAT: &[Template] = &[
     Line(&[Get(SELF), TO_ADDRESS, Tee(FROM)]),
     Line(&[LOAD_COUNT, Tee(LEFT)]),
     Line(&[Get(FIRST), TO_ADDRESS, LOAD_COUNT]),
@@ -74,7 +74,7 @@ pub(crate) const CAT: &[Part] = &[
 ];
 
 /// `STR.substring`. The first test is whether the place or the count is negative, the second whether they pass the length.
-pub(crate) const SUBSTRING: &[Part] = &[
+pub(crate) const SUBSTRING: &[Template] = &[
     Line(&[Get(FIRST), Get(SECOND), Do(I64_OR)]),
     Line(&[I64(0), Do(I64_LT_S)]),
     Line(&[Get(FIRST), Get(SECOND), Do(I64_ADD)]),
@@ -95,7 +95,7 @@ pub(crate) const SUBSTRING: &[Part] = &[
 const ELEMENTS: u32 = 3;
 
 /// Copies the characters of 8 elements.
-const COPY_EIGHT: Part = Sequence(&[
+const COPY_EIGHT: Template = Sequence(&[
     Line(&[Get(TO), Get(FROM)]),
     Line(&[Memory(I32_LOAD8_U, 8), Memory(I32_STORE8, 8)]),
     Line(&[Get(TO), Get(FROM)]),
@@ -115,7 +115,7 @@ const COPY_EIGHT: Part = Sequence(&[
 ]);
 
 /// `STR.of`. An element's character is the low byte of its word.
-pub(crate) const OF: &[Part] = &[
+pub(crate) const OF: &[Template] = &[
     Line(&[Get(SECOND), Get(FIRST), TO_ADDRESS, LOAD_LENGTH]),
     Line(&[Do(I64_GT_U)]),
     INDEX_IF,

@@ -11,8 +11,8 @@
 ghost use Rattle.std.specs.Prelude.{◌≡◌, ◌+◌, IfOk};
 
 use crate::layout::{PUT, STARTING_SITE, TRACED_WORDS};
-use crate::line::Op::{Call, Get, I32, SetGlobal};
-use crate::line::add_line;
+use crate::template_ops::TemplateOp::{Call, Get, I32, SetGlobal};
+use crate::template_ops::emit_ops;
 use sqlite_items::Items;
 use wa_syntax::{Instr, NoMemory};
 
@@ -22,12 +22,12 @@ pub enum Tracing {
     /// It puts the output alone.
     Off,
     /// It puts frames, by these functions.
-    On(Tellers),
+    On(TraceFunctions),
 }
 
 /// The functions of a traced module that put frames, by number.
 #[derive(Clone, Copy, Debug, PartialEq, Eq)]
-pub struct Tellers {
+pub struct TraceFunctions {
     /// Puts the frame of a byte of the output, which is the low byte of its argument.
     pub byte: u32,
     /// Makes a frame in memory that of a new instance, and puts the frame of its start.
@@ -38,20 +38,20 @@ pub struct Tellers {
     pub outcome: u32,
 }
 
-impl Tellers {
+impl TraceFunctions {
     /// The functions of [`trace_code`](crate::trace_code), where the first one has this number.
     ///
     /// # Errors
     ///
     /// `NoMemory` where 32 bits don't hold their numbers.
-    pub fn from_first(first: u32) -> Result<Tellers, NoMemory>
+    pub fn from_first(first: u32) -> Result<TraceFunctions, NoMemory>
         ensures byte { IfOk result (λ tellers. tellers.byte ≡ first) }
         ensures start { IfOk result (λ tellers. tellers.start ≡ first + 1) }
         ensures event { IfOk result (λ tellers. tellers.event ≡ first + 2) }
         ensures outcome { IfOk result (λ tellers. tellers.outcome ≡ first + 3) }
     {
         let last = first.checked_add(3).ok_or(NoMemory)?;
-        Ok(Tellers {
+        Ok(TraceFunctions {
             byte: first,
             start: last - 2,
             event: last - 1,
@@ -62,7 +62,7 @@ impl Tellers {
 
 /// An event that is told where it stands in the code.
 #[derive(Clone, Copy, Debug, PartialEq, Eq)]
-pub enum Event {
+pub enum TraceEvent {
     /// The instance has got its frame.
     Start,
     /// The instance goes on where it was suspended.
@@ -71,13 +71,13 @@ pub enum Event {
     Abandon,
 }
 
-impl Event {
+impl TraceEvent {
     /// The number of the event. A yield and a quit have the numbers of the statuses `SUSPENDED` and `ENDED`.
     pub(crate) fn number(self) -> u32 {
         match self {
-            Event::Start => 0,
-            Event::Resume => 1,
-            Event::Abandon => 4,
+            TraceEvent::Start => 0,
+            TraceEvent::Resume => 1,
+            TraceEvent::Abandon => 4,
         }
     }
 }
@@ -91,26 +91,26 @@ pub fn traced_words(tracing: Tracing) -> u32 {
 }
 
 /// Adds what tells an event of the instance whose frame is in this local.
-pub fn add_event(
+pub fn emit_event(
     to: &mut Items<Instr>,
     tracing: Tracing,
     frame: u32,
-    event: Event,
+    event: TraceEvent,
 ) -> Result<(), NoMemory> {
     let Tracing::On(tellers) = tracing else {
         return Ok(());
     };
     match event {
-        Event::Start => add_line(to, &[Get(frame), Call(tellers.start)]),
-        Event::Resume | Event::Abandon => {
+        TraceEvent::Start => emit_ops(to, &[Get(frame), Call(tellers.start)]),
+        TraceEvent::Resume | TraceEvent::Abandon => {
             let line = [Get(frame), I32(event.number()), Call(tellers.event)];
-            add_line(to, &line)
+            emit_ops(to, &line)
         }
     }
 }
 
 /// Adds what tells how the body of the instance was left whose frame is in this local: by the status in the other local.
-pub fn add_outcome(
+pub fn emit_outcome(
     to: &mut Items<Instr>,
     tracing: Tracing,
     frame: u32,
@@ -120,27 +120,27 @@ pub fn add_outcome(
         Tracing::Off => Ok(()),
         Tracing::On(tellers) => {
             let line = [Get(frame), Get(status), Call(tellers.outcome)];
-            add_line(to, &line)
+            emit_ops(to, &line)
         }
     }
 }
 
 /// Adds what names the site that starts an instance next, by its place among all sites of the program.
-pub fn add_starting_site(
+pub fn emit_starting_site(
     to: &mut Items<Instr>,
     tracing: Tracing,
     site: u32,
 ) -> Result<(), NoMemory> {
     match tracing {
         Tracing::Off => Ok(()),
-        Tracing::On(_) => add_line(to, &[I32(site), SetGlobal(STARTING_SITE)]),
+        Tracing::On(_) => emit_ops(to, &[I32(site), SetGlobal(STARTING_SITE)]),
     }
 }
 
 /// Adds the call that writes the low byte of the operand to the output.
-pub(crate) fn add_put(to: &mut Items<Instr>, tracing: Tracing) -> Result<(), NoMemory> {
+pub(crate) fn emit_put(to: &mut Items<Instr>, tracing: Tracing) -> Result<(), NoMemory> {
     match tracing {
-        Tracing::Off => add_line(to, &[Call(PUT)]),
-        Tracing::On(tellers) => add_line(to, &[Call(tellers.byte)]),
+        Tracing::Off => emit_ops(to, &[Call(PUT)]),
+        Tracing::On(tellers) => emit_ops(to, &[Call(tellers.byte)]),
     }
 }

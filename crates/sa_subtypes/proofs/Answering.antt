@@ -4,35 +4,35 @@ use Rattle.std.specs.Prelude.{◌↔◌}
 use Rattle.std.specs.Option.{option_map}
 use Rattle.std.proofs.Math.Path.{fun_ext}
 use Rattle.std.proofs.lemmas.Option.{none-some, slice_get_cases, slice_get_within}
-use Rattle.sa_tree.specs.declared.class.Class.{Class}
-use Rattle.sa_tree.specs.declared.class.Flat.{Flat}
-use Rattle.sa_tree.specs.Types.{BareTy, Named, Same, Rout, Iter, BareTys, no_types, type, bare, bare_tys}
-use Rattle.sa_tree.specs.TypeEquality.{same_type, same_type_Decides}
-use Rattle.sa_subtypes_pairs.specs.declared.declared.Edge.{Edge}
-use Rattle.sa_subtypes.specs.declared.edges.Edges.{Edges}
-use Rattle.sa_subtypes_lineage.specs.declared.lineage.Lineage.{Lineage}
-use Rattle.sa_subtypes_pairs.specs.declared.names.Names.{Names}
-use Rattle.sa_subtypes_pairs.specs.declared.written.Written.{Written}
-use Rattle.sa_subtypes.specs.Below.{class_in, leads_in, climbs_in, tops_in, immutable_in, AreSubtypesOf}
+use Rattle.sa_ast.specs.declared.class.Class.{Class}
+use Rattle.sa_ast.specs.declared.class.FlatClass.{FlatClass}
+use Rattle.sa_ast.specs.Types.{BareTy, Named, Same, Rout, Iter, BareTys, no_types, type, bare, bare_tys}
+use Rattle.sa_ast.specs.TypeEquality.{same_type, same_type_Decides}
+use Rattle.sa_unify.specs.declared.declared.Edge.{Edge}
+use Rattle.sa_subtypes.specs.declared.edges.SubtypeRelation.{SubtypeRelation}
+use Rattle.sa_hierarchy.specs.declared.class_hierarchy.Hierarchy.{Hierarchy}
+use Rattle.sa_unify.specs.declared.names.Names.{Names}
+use Rattle.sa_unify.specs.declared.written.WrittenEdge.{WrittenEdge}
+use Rattle.sa_subtypes.specs.SubtypeTest.{class_in, leads_in, climbs_in, tops_in, immutable_in, AreSubtypesOf}
 use Rattle.sa_subtypes.specs.Bounds.{holds}
 use Rattle.sa_subtypes.specs.Deciding.{found_between, types_in}
-use Rattle.sa_subtypes_pairs.specs.Edges.{EdgeNodes, edge_of, seen, declared_edges}
-use Rattle.sa_subtypes_lineage.specs.Kept.{IsEdgeOf, AreWritten}
-use Rattle.sa_subtypes_lineage.specs.Lineages.{Tables, At, class_at, AreArgs, AreTried, IsFound, tables}
-use Rattle.sa_subtypes_pairs.specs.Numbers.{AreNamesOf, number_in}
-use Rattle.sa_subtypes_pairs.specs.Spelled.{count_types, spelled_all}
-use Rattle.sa_subtypes_pairs.specs.Terms.{behind}
+use Rattle.sa_unify.specs.DeclaredEdges.{EdgeNodes, edge_of, seen, declared_edges}
+use Rattle.sa_hierarchy.specs.Kept.{IsEdgeOf, AreWritten}
+use Rattle.sa_hierarchy.specs.Hierarchies.{Tables, At, class_at, AreArgs, AreTried, IsFound, tables}
+use Rattle.sa_unify.specs.Numbers.{AreNamesOf, number_in}
+use Rattle.sa_unify.specs.Spelled.{count_types, spelled_all}
+use Rattle.sa_unify.specs.Terms.{following}
 use Rattle.sa_subtypes.specs.Subtypes.{IsEdge, Sub, is_immutable_type, top}
 use Rattle.sa_subtypes.proofs.Bounds.{holds-exact}
-use Rattle.sa_subtypes_lineage.proofs.Tests.{or-cases, or_first, or_second}
+use Rattle.sa_hierarchy.proofs.Tests.{or-cases, or_first, or_second}
 use Rattle.sa_subtypes.proofs.Chains.{Chain, here, Below, below-sub, sub-below}
 use Rattle.sa_subtypes.proofs.ClassFacts.{name-is, kind-immutable}
 use Rattle.sa_subtypes.proofs.ClassPlaces.{numbered-named}
 use Rattle.sa_subtypes.proofs.Deciding.{at_types, counts-length, found-decides}
 use Rattle.sa_subtypes.proofs.Declarations.{number_of, all_edges}
-use Rattle.sa_subtypes_lineage.proofs.Lineages.{leads-found, found-leads}
+use Rattle.sa_hierarchy.proofs.Lineages.{leads-found, found-leads}
 use Rattle.sa_subtypes.proofs.Members.{Among, among-at}
-use Rattle.sa_subtypes_pairs.proofs.Spelling.{spelled_all-terms}
+use Rattle.sa_unify.proofs.Spelling.{spelled_all-terms}
 use Rattle.sa_subtypes.proofs.Steps.{AreEdges, IsAtType, HasLeads, read_at, read-at, leads-chain, chain-leads}
 use Rattle.sa_subtypes.proofs.TermChains.{edge-named}
 
@@ -72,7 +72,7 @@ types-list (type t more) = ap (type t) (types-list more)
 
 -- ---- the tables of a program
 
-module _ (flat : Flat) (edges : Edges) (are : AreNamesOf flat.classes edges.lineage.names) (written : List Written) (all : seen written ≡ declared_edges (number_in edges.lineage.names.places) flat.classes) (tried : AreTried (tables edges.lineage)) (kept : AreWritten (tables edges.lineage) written) where
+module _ (flat : FlatClass) (edges : SubtypeRelation) (are : AreNamesOf flat.classes edges.lineage.names) (written : List WrittenEdge) (all : seen written ≡ declared_edges (number_in edges.lineage.names.places) flat.classes) (tried : AreTried (tables edges.lineage)) (kept : AreWritten (tables edges.lineage) written) where
   w : Tables
   w = tables edges.lineage
 
@@ -88,7 +88,7 @@ module _ (flat : Flat) (edges : Edges) (are : AreNamesOf flat.classes edges.line
       listed : (number : ℕ) (edge : Edge) → slice_get (tables edges.lineage).edges number ≡ Some edge → (e : EdgeNodes) × Among e (all_edges flat) × IsEdgeOf (tables edges.lineage) edge e
       listed number edge is = go (slice_get_cases written number).1
         where
-          go : ((x : Written) × (number < length written) × (slice_get written number ≡ Some x) × (get_or written number x ≡ x)) ⊎ ((length written ≤ number) × (slice_get written number ≡ None)) → (e : EdgeNodes) × Among e (all_edges flat) × IsEdgeOf (tables edges.lineage) edge e
+          go : ((x : WrittenEdge) × (number < length written) × (slice_get written number ≡ Some x) × (get_or written number x ≡ x)) ⊎ ((length written ≤ number) × (slice_get written number ≡ None)) → (e : EdgeNodes) × Among e (all_edges flat) × IsEdgeOf (tables edges.lineage) edge e
           go (inl found) =
               let at_place = kept.each number found.0 found.2 in
               let same : at_place.edge ≡ edge = some_items at_place.edge edge (sym at_place.declared ∙ is) in
@@ -120,7 +120,7 @@ module _ (flat : Flat) (edges : Edges) (are : AreNamesOf flat.classes edges.line
   }
 
   at-terms : (args : List BareTy) → AreArgs (length args) (spelled_all (bare_tys args))
-  at-terms args = ap (behind (spelled_all (bare_tys args))) (sym (counts-length args)) ∙ spelled_all-terms (bare_tys args)
+  at-terms args = ap (following (spelled_all (bare_tys args))) (sym (counts-length args)) ∙ spelled_all-terms (bare_tys args)
 
   reads : (name : List ℕ) (class : ℕ) (args : BareTys) → class_in edges name ≡ Some class → read_at flat (tables edges.lineage) (at_types class (types_in args)) ≡ Named name args
   reads name class args is =
@@ -201,9 +201,9 @@ module _ (flat : Flat) (edges : Edges) (are : AreNamesOf flat.classes edges.line
   }
 
 -- the same of what was made
-pub subtypes-of : (flat : Flat) (classes : List Class) (names : Names) (written l : List Written) (lineage : Lineage) (edges : Edges) → classes ≡ flat.classes → AreNamesOf classes names → seen written ≡ declared_edges (number_in names.places) classes → lineage.names ≡ names → AreTried (tables lineage) → l ≡ written → AreWritten (tables lineage) l → edges.lineage ≡ lineage → AreSubtypesOf flat edges
+pub subtypes-of : (flat : FlatClass) (classes : List Class) (names : Names) (written l : List WrittenEdge) (lineage : Hierarchy) (edges : SubtypeRelation) → classes ≡ flat.classes → AreNamesOf classes names → seen written ≡ declared_edges (number_in names.places) classes → lineage.names ≡ names → AreTried (tables lineage) → l ≡ written → AreWritten (tables lineage) l → edges.lineage ≡ lineage → AreSubtypesOf flat edges
 subtypes-of flat classes names written l lineage edges e are all f tried g kept h =
-    let same : names ≡ edges.lineage.names = sym (ap (λ (x : Lineage). x.names) h ∙ f) in
+    let same : names ≡ edges.lineage.names = sym (ap (λ (x : Hierarchy). x.names) h ∙ f) in
     let own : AreNamesOf flat.classes edges.lineage.names = subst (AreNamesOf flat.classes) same (subst (λ c. AreNamesOf c names) e are) in
     let edges_are : seen written ≡ declared_edges (number_in edges.lineage.names.places) flat.classes = all ∙ ap (λ (n : Names). declared_edges (number_in n.places) classes) same ∙ ap (declared_edges (number_in edges.lineage.names.places)) e in
     let tables_are : AreTried (tables edges.lineage) = subst (λ x. AreTried (tables x)) (sym h) tried in

@@ -4,20 +4,20 @@ use Rattle.std.specs.Cmp.Lexicographic.{pointwise}
 use Rattle.std.specs.Ordering.{on}
 use Rattle.std.proofs.lemmas.Bool.{eqb-true, eq-eqb}
 use Rattle.std.proofs.lemmas.List.{length-map}
-use Rattle.sa_tree.specs.declared.pos.Pos.{Pos}
-use Rattle.sa_tree.specs.declared.ty.ModeTy.{ModeTy}
-use Rattle.sa_tree.specs.declared.ty.Ty.{Ty}
-use Rattle.sa_tree.specs.declared.ty.Ty.TheVariants as ty
-use Rattle.sa_tree.specs.Types.{BareTy, Named, no_types, bare, all_bare, bare_tys}
-use Rattle.sa_tree.specs.TypeEquality.{same_type, same_types}
-use Rattle.sa_tree.proofs.BareTypes.{bare-Named, bare-Same, bare-Rout, bare-Iter}
-use Rattle.sa_tree.proofs.TypeTests.{same_types-all_bare}
-use Rattle.sa_subtypes.specs.declared.edges.Edges.{Edges}
-use Rattle.sa_subtypes_lineage.specs.declared.lineage.Above.{Above}
-use Rattle.sa_subtypes_lineage.specs.declared.links.Link.{Link}
-use Rattle.sa_subtypes.specs.Below.{tables_in, class_in, leads_in, climbs_in, tops_in}
+use Rattle.sa_ast.specs.declared.pos.Pos.{Pos}
+use Rattle.sa_ast.specs.declared.ty.ModeTy.{ModeTy}
+use Rattle.sa_ast.specs.declared.ty.Ty.{Ty}
+use Rattle.sa_ast.specs.declared.ty.Ty.TheVariants as ty
+use Rattle.sa_ast.specs.Types.{BareTy, Named, no_types, bare, all_bare, bare_tys}
+use Rattle.sa_ast.specs.TypeEquality.{same_type, same_types}
+use Rattle.sa_ast.proofs.BareTypes.{bare-Named, bare-Same, bare-Rout, bare-Iter}
+use Rattle.sa_ast.proofs.TypeTests.{same_types-all_bare}
+use Rattle.sa_subtypes.specs.declared.edges.SubtypeRelation.{SubtypeRelation}
+use Rattle.sa_hierarchy.specs.declared.class_hierarchy.Ancestor.{Ancestor}
+use Rattle.sa_hierarchy.specs.declared.links.ParentLink.{ParentLink}
+use Rattle.sa_subtypes.specs.SubtypeTest.{tables_in, class_in, leads_in, climbs_in, tops_in}
 use Rattle.sa_subtypes.specs.Deciding.{some_place, is_by, place_by, range_by, list_by, entry_by, link_by, in_list, found_in, found_between, types_in}
-use Rattle.sa_subtypes_lineage.specs.Lineages.{Tables}
+use Rattle.sa_hierarchy.specs.Hierarchies.{Tables}
 use Rattle.sa_subtypes.specs.Subtypes.{top, top_name}
 
 -- ---- counts and equal lists
@@ -44,16 +44,16 @@ other_test m n h = go (nat_eq m n) refl
     go true e = absurd (h (eqb-true m n e))
     go false e = refl
 
-module _ (w : Tables) (lower : ℕ) (args : List BareTy) (upper : ℕ) (above : List BareTy) (o : Option Link) (is : o ≡ slice_get w.links lower) where
+module _ (w : Tables) (lower : ℕ) (args : List BareTy) (upper : ℕ) (above : List BareTy) (o : Option ParentLink) (is : o ≡ slice_get w.links lower) where
   pub link-none : o ≡ None → false ≡ in_list w lower args upper above
   unfolding in_list
   link-none e = ap (link_by w lower args upper above) (sym e ∙ is)
 
-  pub link-other : (link : Link) (a : Bool) → o ≡ Some link → a ≡ (nat_eq link.root lower || nat_eq (length args) (w.arity lower)) → a ≡ false → false ≡ in_list w lower args upper above
+  pub link-other : (link : ParentLink) (a : Bool) → o ≡ Some link → a ≡ (nat_eq link.root lower || nat_eq (length args) (w.arity lower)) → a ≡ false → false ≡ in_list w lower args upper above
   unfolding in_list
   link-other link a e h k = ap (λ b. b && list_by w link.root args upper above) (sym k ∙ h) ∙ ap (link_by w lower args upper above) (sym e ∙ is)
 
-  pub link-goes : (link : Link) (a r : Bool) → o ≡ Some link → a ≡ (nat_eq link.root lower || nat_eq (length args) (w.arity lower)) → a ≡ true → r ≡ list_by w link.root args upper above → r ≡ in_list w lower args upper above
+  pub link-goes : (link : ParentLink) (a r : Bool) → o ≡ Some link → a ≡ (nat_eq link.root lower || nat_eq (length args) (w.arity lower)) → a ≡ true → r ≡ list_by w link.root args upper above → r ≡ in_list w lower args upper above
   unfolding in_list
   link-goes link a r e h k g = g ∙ ap (λ b. b && list_by w link.root args upper above) (sym k ∙ h) ∙ ap (link_by w lower args upper above) (sym e ∙ is)
 
@@ -66,15 +66,15 @@ module _ (w : Tables) (root : ℕ) (args : List BareTy) (upper : ℕ) (above : L
   unfolding list_by
   range-some o range r is e h = h ∙ ap (range_by w root args upper above) (sym e ∙ is)
 
-  pub place-none : (place : ℕ) (o : Option Above) → o ≡ slice_get w.above place → o ≡ None → false ≡ place_by w root args upper above place
+  pub place-none : (place : ℕ) (o : Option Ancestor) → o ≡ slice_get w.above place → o ≡ None → false ≡ place_by w root args upper above place
   unfolding place_by
   place-none place o is e = ap (entry_by w root args upper above) (sym e ∙ is)
 
-  pub place-other : (place : ℕ) (o : Option Above) (entry : Above) → o ≡ slice_get w.above place → o ≡ Some entry → entry.class ≢ root → false ≡ place_by w root args upper above place
+  pub place-other : (place : ℕ) (o : Option Ancestor) (entry : Ancestor) → o ≡ slice_get w.above place → o ≡ Some entry → entry.class ≢ root → false ≡ place_by w root args upper above place
   unfolding place_by
   place-other place o entry is e h = ap (λ b. b && is_by w entry args upper above) (sym (other_test entry.class root h)) ∙ ap (entry_by w root args upper above) (sym e ∙ is)
 
-  pub place-here : (place : ℕ) (o : Option Above) (entry : Above) (r : Bool) → o ≡ slice_get w.above place → o ≡ Some entry → entry.class ≡ root → r ≡ is_by w entry args upper above → r ≡ place_by w root args upper above place
+  pub place-here : (place : ℕ) (o : Option Ancestor) (entry : Ancestor) (r : Bool) → o ≡ slice_get w.above place → o ≡ Some entry → entry.class ≡ root → r ≡ is_by w entry args upper above → r ≡ place_by w root args upper above place
   unfolding place_by
   place-here place o entry r is e h k = k ∙ ap (λ b. b && is_by w entry args upper above) (sym (same_test entry.class root h)) ∙ ap (entry_by w root args upper above) (sym e ∙ is)
 
@@ -109,7 +109,7 @@ types-bare (t ∷ more) = ap (λ l. t ∷ l) (types-bare more)
 pub types-all_bare : (ts : List Ty) → types_in (all_bare ts) ≡ map bare ts
 types-all_bare ts = types-bare (map bare ts)
 
-module _ (edges : Edges) where
+module _ (edges : SubtypeRelation) where
   pub from-Named : (s t : Ty) (name : List ℕ) (args l : List Ty) (pos : Pos) (r : Bool) → s ≡ ty.Named name args pos → l ≡ args → r ≡ leads_in edges (Named name (all_bare l)) (bare t) → r ≡ leads_in edges (bare s) (bare t)
   from-Named s t name args l pos r e f h = h ∙ ap (λ x. leads_in edges (Named name (all_bare x)) (bare t)) f ∙ sym (ap (λ x. leads_in edges x (bare t)) (ap bare e ∙ bare-Named name args pos))
 

@@ -2,14 +2,14 @@
 use Rattle.std.proofs.Common.{◌≡◌, ℕ, suc, ◌+◌, ◌<◌, ◌≤◌, Bool, true, false, ◌||◌, ◌&&◌, cond, List, [], ◌∷◌, length, get_or, drop, Option, Some, None, refl, sym, ap, subst, ◌∙◌, arith}
 use Rattle.std.specs.Prelude.{not}
 use Rattle.std.proofs.lemmas.List.{drop_more, drop_all}
-use Rattle.sa_tree.specs.declared.pos.Pos.{Pos}
-use Rattle.sa_tree.specs.declared.ty.ModeTy.{ModeTy}
-use Rattle.sa_tree.specs.declared.ty.Ty.{Ty}
-use Rattle.sa_tree.specs.declared.ty.Ty.TheVariants as ty
-use Rattle.sa_tree.specs.Types.{BareTy, Rout, Iter, bare, bare_arg, all_bare_args, option_bare}
-use Rattle.sa_tree.proofs.BareTypes.{bare-Named, bare-Same, bare-Rout, bare-Iter, bare_arg-parts, by_variants}
-use Rattle.sa_tree.specs.TypeEquality.{same_mode, same_type}
-use Rattle.sa_subtypes.specs.Bounds.{goes_by, rises, stands_as, holds, args_hold, arg_holds, result_holds}
+use Rattle.sa_ast.specs.declared.pos.Pos.{Pos}
+use Rattle.sa_ast.specs.declared.ty.ModeTy.{ModeTy}
+use Rattle.sa_ast.specs.declared.ty.Ty.{Ty}
+use Rattle.sa_ast.specs.declared.ty.Ty.TheVariants as ty
+use Rattle.sa_ast.specs.Types.{BareTy, Rout, Iter, bare, bare_arg, all_bare_args, option_bare}
+use Rattle.sa_ast.proofs.BareTypes.{bare-Named, bare-Same, bare-Rout, bare-Iter, bare_arg-parts, by_variants}
+use Rattle.sa_ast.specs.TypeEquality.{same_mode, same_type}
+use Rattle.sa_subtypes.specs.Bounds.{goes_by, rises, occurs_as, holds, args_hold, arg_holds, result_holds}
 
 and_false : (a b : Bool) → false ≡ b → false ≡ (a && b)
 and_false true b h = h
@@ -163,18 +163,18 @@ module _ (tops : BareTy → Bool) (climbs : BareTy → BareTy → Bool) (immutab
     abbrev Goes : Bool
     Goes = goes_by a.mode (same_type (bare a.ty) (bare b.ty)) (holds tops climbs immutable (bare a.ty) (bare b.ty) turned) (holds tops climbs immutable (bare a.ty) (bare b.ty) (not turned))
 
-    arg-is : arg_holds tops climbs immutable (bare_arg a) (bare_arg b) turned ≡ (same_mode a.mode b.mode && stands_as tops climbs immutable (bare a.ty) (bare b.ty) Goes)
+    arg-is : arg_holds tops climbs immutable (bare_arg a) (bare_arg b) turned ≡ (same_mode a.mode b.mode && occurs_as tops climbs immutable (bare a.ty) (bare b.ty) Goes)
     unfolding arg_holds
     arg-is = ap (λ x. arg_holds tops climbs immutable x (bare_arg b) turned) (bare_arg-parts a) ∙ ap (λ x. arg_holds tops climbs immutable (a.mode, bare a.ty) x turned) (bare_arg-parts b)
 
     pub arg-modes : (m : Bool) → m ≡ same_mode a.mode b.mode → m ≡ false → false ≡ arg_holds tops climbs immutable (bare_arg a) (bare_arg b) turned
-    arg-modes m h k = sym (arg-is ∙ ap (λ x. x && stands_as tops climbs immutable (bare a.ty) (bare b.ty) Goes) (sym h ∙ k))
+    arg-modes m h k = sym (arg-is ∙ ap (λ x. x && occurs_as tops climbs immutable (bare a.ty) (bare b.ty) Goes) (sym h ∙ k))
 
     pub arg-fixed : (m f r : Bool) → m ≡ same_mode a.mode b.mode → m ≡ true → f ≡ (immutable (bare a.ty) || immutable (bare b.ty)) → f ≡ true → r ≡ same_type (bare a.ty) (bare b.ty) → r ≡ arg_holds tops climbs immutable (bare_arg a) (bare_arg b) turned
-    arg-fixed m f r h k e g j = j ∙ sym (arg-is ∙ ap (λ x. x && stands_as tops climbs immutable (bare a.ty) (bare b.ty) Goes) (sym h ∙ k) ∙ ap (λ x. cond x (same_type (bare a.ty) (bare b.ty)) Goes) (sym e ∙ g))
+    arg-fixed m f r h k e g j = j ∙ sym (arg-is ∙ ap (λ x. x && occurs_as tops climbs immutable (bare a.ty) (bare b.ty) Goes) (sym h ∙ k) ∙ ap (λ x. cond x (same_type (bare a.ty) (bare b.ty)) Goes) (sym e ∙ g))
 
     pub arg-free : (m f r : Bool) → m ≡ same_mode a.mode b.mode → m ≡ true → f ≡ (immutable (bare a.ty) || immutable (bare b.ty)) → f ≡ false → r ≡ Goes → r ≡ arg_holds tops climbs immutable (bare_arg a) (bare_arg b) turned
-    arg-free m f r h k e g j = j ∙ sym (arg-is ∙ ap (λ x. x && stands_as tops climbs immutable (bare a.ty) (bare b.ty) Goes) (sym h ∙ k) ∙ ap (λ x. cond x (same_type (bare a.ty) (bare b.ty)) Goes) (sym e ∙ g))
+    arg-free m f r h k e g j = j ∙ sym (arg-is ∙ ap (λ x. x && occurs_as tops climbs immutable (bare a.ty) (bare b.ty) Goes) (sym h ∙ k) ∙ ap (λ x. cond x (same_type (bare a.ty) (bare b.ty)) Goes) (sym e ∙ g))
 
   -- ---- the results
 

@@ -2,14 +2,14 @@
 use Rattle.std.proofs.Common.{◌≡◌, Bool, true, false, true≢false, ◌||◌, ◌&&◌, cond, inl, inr, refl, sym, ap, subst, ◌∙◌}
 use Rattle.std.specs.Prelude.{◌⊎◌, ◌↔◌, not}
 use Rattle.std.specs.Cmp.{first_so, second_so}
-use Rattle.sa_tree.specs.declared.ty.Mode.{Mode}
-use Rattle.sa_tree.specs.declared.ty.Mode.TheVariants.{In, Out, Inout, Once}
-use Rattle.sa_tree.specs.TypeEquality.{same_mode, same_type, same_type_Decides}
-use Rattle.sa_tree.specs.Types.{BareTy, Named, Same, Rout, Iter, BareArgs, no_args, arg, BareResult, no_result, gives}
-use Rattle.sa_subtypes.specs.Bounds.{goes_by, rises, stands_as, holds, args_hold, result_holds}
-use Rattle.sa_subtypes.specs.Subtypes.{top, MayStand}
+use Rattle.sa_ast.specs.declared.ty.Mode.{Mode}
+use Rattle.sa_ast.specs.declared.ty.Mode.TheVariants.{In, Out, Inout, Once}
+use Rattle.sa_ast.specs.TypeEquality.{same_mode, same_type, same_type_Decides}
+use Rattle.sa_ast.specs.Types.{BareTy, Named, Same, Rout, Iter, BareArgs, no_args, arg, BareResult, no_result, gives}
+use Rattle.sa_subtypes.specs.Bounds.{goes_by, rises, occurs_as, holds, args_hold, result_holds}
+use Rattle.sa_subtypes.specs.Subtypes.{top, MayOccur}
 use Rattle.sa_subtypes.proofs.Chains.{IsNamed, Chain, here, step, Below, above_all, by_chain, by_routine, by_iter, BelowArgs, no_more, by_in, by_once, by_both, by_out, BelowResult, no_results, by_result}
-use Rattle.sa_subtypes_lineage.proofs.Tests.{or-cases, or_first, or_second, both}
+use Rattle.sa_hierarchy.proofs.Tests.{or-cases, or_first, or_second, both}
 use Rattle.sa_subtypes.proofs.Walks.{same_mode-self, same_mode-true}
 
 no_first : (a b : Bool) → (a || b) ≡ false → a ≡ false
@@ -47,8 +47,8 @@ module _ (Edge : BareTy → BareTy → Type 0) (named : (s t : BareTy) → Edge 
   ResultIf true a b = BelowResult Edge immutable b a
 
   abbrev StandIf : Bool → BareTy → BareTy → Type 0
-  StandIf false s t = MayStand immutable s t
-  StandIf true s t = MayStand immutable t s
+  StandIf false s t = MayOccur immutable s t
+  StandIf true s t = MayOccur immutable t s
 
   top-sound : (s t : BareTy) (turned : Bool) → tops (cond turned s t) ≡ true → BelowIf turned s t
   top-sound s t false h = above_all ((tops-exact t).0 h)
@@ -69,21 +69,21 @@ module _ (Edge : BareTy → BareTy → Type 0) (named : (s t : BareTy) → Edge 
   itself s t false e = subst (λ x. Below Edge immutable s x) e (by_chain here)
   itself s t true e = subst (λ x. Below Edge immutable x s) e (by_chain here)
 
-  stand-same : (s t : BareTy) (turned : Bool) → s ≡ t → StandIf turned s t
-  stand-same s t false e = inl e
-  stand-same s t true e = inl (sym e)
+  denoted-same : (s t : BareTy) (turned : Bool) → s ≡ t → StandIf turned s t
+  denoted-same s t false e = inl e
+  denoted-same s t true e = inl (sym e)
 
-  stand-apart : (s t : BareTy) (turned : Bool) → immutable s ≡ false → immutable t ≡ false → StandIf turned s t
-  stand-apart s t false h k = inr (h, k)
-  stand-apart s t true h k = inr (k, h)
+  denoted-apart : (s t : BareTy) (turned : Bool) → immutable s ≡ false → immutable t ≡ false → StandIf turned s t
+  denoted-apart s t false h k = inr (h, k)
+  denoted-apart s t true h k = inr (k, h)
 
   -- the types at a place of two bound types
-  place-sound : (s t : BareTy) (turned way : Bool) (other : Bool) → stands_as tops climbs immutable s t other ≡ true → (other ≡ true → BelowIf way s t) → StandIf turned s t × BelowIf way s t
+  place-sound : (s t : BareTy) (turned way : Bool) (other : Bool) → occurs_as tops climbs immutable s t other ≡ true → (other ≡ true → BelowIf way s t) → StandIf turned s t × BelowIf way s t
   place-sound s t turned way other h f = go (immutable s || immutable t) refl h
     where
       go : (b : Bool) → (immutable s || immutable t) ≡ b → cond b (same_type s t) other ≡ true → StandIf turned s t × BelowIf way s t
-      go true e k = let same : s ≡ t = (same_type_Decides s t).0 k in (stand-same s t turned same, itself s t way same)
-      go false e k = (stand-apart s t turned (no_first (immutable s) (immutable t) e) (no_second (immutable s) (immutable t) e), f k)
+      go true e k = let same : s ≡ t = (same_type_Decides s t).0 k in (denoted-same s t turned same, itself s t way same)
+      go false e k = (denoted-apart s t turned (no_first (immutable s) (immutable t) e) (no_second (immutable s) (immutable t) e), f k)
 
   bound-sound : (xs ys : BareArgs) (a b : BareResult) (turned : Bool) → ArgsIf turned xs ys → ResultIf turned a b → BelowIf turned (Rout xs a) (Rout ys b)
   bound-sound xs ys a b false h k = by_routine h k
@@ -109,7 +109,7 @@ module _ (Edge : BareTy → BareTy → Type 0) (named : (s t : BareTy) → Edge 
   inout-sound s t xs ys false e k = subst (λ x. BelowArgs Edge immutable (arg Inout s xs) (arg Inout x ys)) e (by_both k)
   inout-sound s t xs ys true e k = subst (λ x. BelowArgs Edge immutable (arg Inout x ys) (arg Inout s xs)) e (by_both k)
 
-  arg-sound : (m : Mode) (s t : BareTy) (xs ys : BareArgs) (turned forth back : Bool) → (forth ≡ true → BelowIf turned s t) → (back ≡ true → BelowIf (not turned) s t) → stands_as tops climbs immutable s t (goes_by m (same_type s t) forth back) ≡ true → ArgsIf turned xs ys → ArgsIf turned (arg m s xs) (arg m t ys)
+  arg-sound : (m : Mode) (s t : BareTy) (xs ys : BareArgs) (turned forth back : Bool) → (forth ≡ true → BelowIf turned s t) → (back ≡ true → BelowIf (not turned) s t) → occurs_as tops climbs immutable s t (goes_by m (same_type s t) forth back) ≡ true → ArgsIf turned xs ys → ArgsIf turned (arg m s xs) (arg m t ys)
   arg-sound In s t xs ys turned forth back f g h k = in-sound s t xs ys turned (place-sound s t turned (not turned) back h g) k
   arg-sound Once s t xs ys turned forth back f g h k = once-sound s t xs ys turned (place-sound s t turned (not turned) back h g) k
   arg-sound Out s t xs ys turned forth back f g h k = out-sound s t xs ys turned (place-sound s t turned turned forth h f) k
@@ -156,7 +156,7 @@ module _ (Edge : BareTy → BareTy → Type 0) (named : (s t : BareTy) → Edge 
     sound-args (arg m s xs) (arg n t ys) turned h =
         let forth = holds tops climbs immutable s t turned in
         let back = holds tops climbs immutable s t (not turned) in
-        let test = stands_as tops climbs immutable s t (goes_by m (same_type s t) forth back) in
+        let test = occurs_as tops climbs immutable s t (goes_by m (same_type s t) forth back) in
         let more = args_hold tops climbs immutable xs ys turned in
         let firsts = first_so (same_mode m n && test) more h in
         let modes : m ≡ n = same_mode-true m n (first_so (same_mode m n) test firsts) in
@@ -231,13 +231,13 @@ module _ (Edge : BareTy → BareTy → Type 0) (named : (s t : BareTy) → Edge 
   whole-chain_turned (Iter xs a) (Iter ys b) h = subst (λ x. holds tops climbs immutable (Iter xs a) x true ≡ true) (sym (from_unnamed h (λ x. x))) (holds-self (Iter xs a) true)
   whole-chain_turned s t h = leaf-chain_turned s t h
 
-  place-whole : (s t : BareTy) (other : Bool) → MayStand immutable s t → other ≡ true → stands_as tops climbs immutable s t other ≡ true
+  place-whole : (s t : BareTy) (other : Bool) → MayOccur immutable s t → other ≡ true → occurs_as tops climbs immutable s t other ≡ true
   place-whole s t other (inl e) h = cond-both (immutable s || immutable t) (same_type s t) other ((same_type_Decides s t).1 e) h
   place-whole s t other (inr k) h = ap (λ b. cond (b || immutable t) (same_type s t) other) k.0 ∙ ap (λ b. cond b (same_type s t) other) k.1 ∙ h
 
-  may_stand-turned : (s t : BareTy) → MayStand immutable s t → MayStand immutable t s
-  may_stand-turned s t (inl e) = inl (sym e)
-  may_stand-turned s t (inr k) = inr (k.1, k.0)
+  may_occur-turned : (s t : BareTy) → MayOccur immutable s t → MayOccur immutable t s
+  may_occur-turned s t (inl e) = inl (sym e)
+  may_occur-turned s t (inr k) = inr (k.1, k.0)
 
   mutual
     unfolding holds args_hold result_holds
@@ -263,10 +263,10 @@ module _ (Edge : BareTy → BareTy → Type 0) (named : (s t : BareTy) → Edge 
 
     whole-args_turned : {xs ys : BareArgs} → BelowArgs Edge immutable ys xs → args_hold tops climbs immutable xs ys true ≡ true
     whole-args_turned no_more = refl
-    whole-args_turned (by_in {s = s} {t = t} m h rest) = both _ _ (place-whole t s _ (may_stand-turned s t m) (whole h)) (whole-args_turned rest)
-    whole-args_turned (by_once {s = s} {t = t} m h rest) = both _ _ (place-whole t s _ (may_stand-turned s t m) (whole h)) (whole-args_turned rest)
+    whole-args_turned (by_in {s = s} {t = t} m h rest) = both _ _ (place-whole t s _ (may_occur-turned s t m) (whole h)) (whole-args_turned rest)
+    whole-args_turned (by_once {s = s} {t = t} m h rest) = both _ _ (place-whole t s _ (may_occur-turned s t m) (whole h)) (whole-args_turned rest)
     whole-args_turned (by_both {t = t} rest) = both _ _ (cond-both (immutable t || immutable t) (same_type t t) (same_type t t) (same_type-self t) (same_type-self t)) (whole-args_turned rest)
-    whole-args_turned (by_out {s = s} {t = t} m h rest) = both _ _ (place-whole t s _ (may_stand-turned s t m) (whole_turned h)) (whole-args_turned rest)
+    whole-args_turned (by_out {s = s} {t = t} m h rest) = both _ _ (place-whole t s _ (may_occur-turned s t m) (whole_turned h)) (whole-args_turned rest)
 
     whole-result : {a b : BareResult} → BelowResult Edge immutable a b → result_holds tops climbs immutable a b false ≡ true
     whole-result no_results = refl
@@ -274,7 +274,7 @@ module _ (Edge : BareTy → BareTy → Type 0) (named : (s t : BareTy) → Edge 
 
     whole-result_turned : {a b : BareResult} → BelowResult Edge immutable b a → result_holds tops climbs immutable a b true ≡ true
     whole-result_turned no_results = refl
-    whole-result_turned (by_result {s = s} {t = t} m h) = place-whole t s _ (may_stand-turned s t m) (whole_turned h)
+    whole-result_turned (by_result {s = s} {t = t} m h) = place-whole t s _ (may_occur-turned s t m) (whole_turned h)
 
   pub holds-exact : (s t : BareTy) → (holds tops climbs immutable s t false ≡ true) ↔ Below Edge immutable s t
   holds-exact s t = (sound s t false, λ h. whole h)

@@ -1,8 +1,8 @@
 -- The normal form of the subtype relation: a type is below another where declared edges lead to it from the first or from `$OB`, or by the rule for bound types, whose arguments and results are below one another in the same way.
 use Rattle.std.proofs.Common.{◌≡◌, Bool, inl, inr, refl, sym, subst}
-use Rattle.sa_tree.specs.declared.ty.Mode.TheVariants.{In, Out, Inout, Once}
-use Rattle.sa_tree.specs.Types.{BareTy, Named, Same, Rout, Iter, BareArgs, no_args, arg, BareResult, no_result, gives}
-use Rattle.sa_subtypes.specs.Subtypes.{top, MayStand, Sub, itself, over, edge, below_top, routine, iter, SubArgs, none, goes_in, goes_once, goes_both, goes_out, SubResult, nothing, one}
+use Rattle.sa_ast.specs.declared.ty.Mode.TheVariants.{In, Out, Inout, Once}
+use Rattle.sa_ast.specs.Types.{BareTy, Named, Same, Rout, Iter, BareArgs, no_args, arg, BareResult, no_result, gives}
+use Rattle.sa_subtypes.specs.Subtypes.{top, MayOccur, Sub, itself, over, edge, below_top, routine, iter, SubArgs, none, goes_in, goes_once, goes_both, goes_out, SubResult, nothing, one}
 
 -- a type is a class
 abbrev pub IsNamed : BareTy → Type 0
@@ -23,14 +23,14 @@ mutual
 
   pub data BelowArgs (Edge : BareTy → BareTy → Type 0) (immutable : BareTy → Bool) : BareArgs → BareArgs → Type 0 where
     no_more : BelowArgs Edge immutable no_args no_args
-    by_in : {s t : BareTy} {args others : BareArgs} → MayStand immutable s t → Below Edge immutable t s → BelowArgs Edge immutable args others → BelowArgs Edge immutable (arg In s args) (arg In t others)
-    by_once : {s t : BareTy} {args others : BareArgs} → MayStand immutable s t → Below Edge immutable t s → BelowArgs Edge immutable args others → BelowArgs Edge immutable (arg Once s args) (arg Once t others)
+    by_in : {s t : BareTy} {args others : BareArgs} → MayOccur immutable s t → Below Edge immutable t s → BelowArgs Edge immutable args others → BelowArgs Edge immutable (arg In s args) (arg In t others)
+    by_once : {s t : BareTy} {args others : BareArgs} → MayOccur immutable s t → Below Edge immutable t s → BelowArgs Edge immutable args others → BelowArgs Edge immutable (arg Once s args) (arg Once t others)
     by_both : {t : BareTy} {args others : BareArgs} → BelowArgs Edge immutable args others → BelowArgs Edge immutable (arg Inout t args) (arg Inout t others)
-    by_out : {s t : BareTy} {args others : BareArgs} → MayStand immutable s t → Below Edge immutable s t → BelowArgs Edge immutable args others → BelowArgs Edge immutable (arg Out s args) (arg Out t others)
+    by_out : {s t : BareTy} {args others : BareArgs} → MayOccur immutable s t → Below Edge immutable s t → BelowArgs Edge immutable args others → BelowArgs Edge immutable (arg Out s args) (arg Out t others)
 
   pub data BelowResult (Edge : BareTy → BareTy → Type 0) (immutable : BareTy → Bool) : BareResult → BareResult → Type 0 where
     no_results : BelowResult Edge immutable no_result no_result
-    by_result : {s t : BareTy} → MayStand immutable s t → Below Edge immutable s t → BelowResult Edge immutable (gives s) (gives t)
+    by_result : {s t : BareTy} → MayOccur immutable s t → Below Edge immutable s t → BelowResult Edge immutable (gives s) (gives t)
 
 module _ (Edge : BareTy → BareTy → Type 0) (immutable : BareTy → Bool) where
   -- ---- chains
@@ -65,10 +65,10 @@ module _ (Edge : BareTy → BareTy → Type 0) (immutable : BareTy → Bool) whe
 
   -- ---- the normal form is transitive
 
-  may_stand-over : {s t u : BareTy} → MayStand immutable s t → MayStand immutable t u → MayStand immutable s u
-  may_stand-over {u = u} (inl e) k = subst (λ x. MayStand immutable x u) (sym e) k
-  may_stand-over {s = s} (inr h) (inl e) = subst (λ x. MayStand immutable s x) e (inr h)
-  may_stand-over (inr h) (inr k) = inr (h.0, k.1)
+  may_occur-over : {s t u : BareTy} → MayOccur immutable s t → MayOccur immutable t u → MayOccur immutable s u
+  may_occur-over {u = u} (inl e) k = subst (λ x. MayOccur immutable x u) (sym e) k
+  may_occur-over {s = s} (inr h) (inl e) = subst (λ x. MayOccur immutable s x) e (inr h)
+  may_occur-over (inr h) (inr k) = inr (h.0, k.1)
 
   below-from : {s t u : BareTy} → s ≡ t → Below Edge immutable t u → Below Edge immutable s u
   below-from {u = u} e h = subst (λ x. Below Edge immutable x u) (sym e) h
@@ -114,14 +114,14 @@ module _ (Edge : BareTy → BareTy → Type 0) (immutable : BareTy → Bool) whe
 
       below_args-over : (args : BareArgs) → {lower upper : BareArgs} → BelowArgs Edge immutable lower args → BelowArgs Edge immutable args upper → BelowArgs Edge immutable lower upper
       below_args-over no_args no_more no_more = no_more
-      below_args-over (arg In t args) (by_in m h rest) (by_in n k others) = by_in (may_stand-over m n) (below-over t k h) (below_args-over args rest others)
-      below_args-over (arg Once t args) (by_once m h rest) (by_once n k others) = by_once (may_stand-over m n) (below-over t k h) (below_args-over args rest others)
+      below_args-over (arg In t args) (by_in m h rest) (by_in n k others) = by_in (may_occur-over m n) (below-over t k h) (below_args-over args rest others)
+      below_args-over (arg Once t args) (by_once m h rest) (by_once n k others) = by_once (may_occur-over m n) (below-over t k h) (below_args-over args rest others)
       below_args-over (arg Inout t args) (by_both rest) (by_both others) = by_both (below_args-over args rest others)
-      below_args-over (arg Out t args) (by_out m h rest) (by_out n k others) = by_out (may_stand-over m n) (below-over t h k) (below_args-over args rest others)
+      below_args-over (arg Out t args) (by_out m h rest) (by_out n k others) = by_out (may_occur-over m n) (below-over t h k) (below_args-over args rest others)
 
       below_result-over : (of : BareResult) → {lower upper : BareResult} → BelowResult Edge immutable lower of → BelowResult Edge immutable of upper → BelowResult Edge immutable lower upper
       below_result-over no_result no_results no_results = no_results
-      below_result-over (gives t) (by_result m h) (by_result n k) = by_result (may_stand-over m n) (below-over t h k)
+      below_result-over (gives t) (by_result m h) (by_result n k) = by_result (may_occur-over m n) (below-over t h k)
 
     -- ---- each subtype has the normal form
 

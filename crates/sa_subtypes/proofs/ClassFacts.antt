@@ -2,12 +2,12 @@
 use Rattle.std.proofs.Common.{◌≡◌, ℕ, zero, suc, Bool, false, List, [], ◌∷◌, Option, Some, None, length, map, slice_get, option_map, refl, sym, ap, ◌∙◌}
 use Rattle.std.proofs.lemmas.Option.{none-some}
 use Rattle.std.specs.Option.{option_map_or, option_and_then}
-use Rattle.sa_tree.specs.declared.class.Class.{Class}
-use Rattle.sa_tree.specs.declared.class.Flat.{Flat}
-use Rattle.sa_tree.specs.declared.class.Kind.{Kind}
-use Rattle.sa_tree.specs.Types.{BareTy, Named, Same, Rout, Iter}
-use Rattle.sa_subtypes_pairs.specs.declared.names.Names.{Names}
-use Rattle.sa_subtypes_pairs.specs.Numbers.{class_place, number_in, row_of, AreNamesOf, kind_bare, kind_of_name, name_of, arity_of}
+use Rattle.sa_ast.specs.declared.class.Class.{Class}
+use Rattle.sa_ast.specs.declared.class.FlatClass.{FlatClass}
+use Rattle.sa_ast.specs.declared.class.ClassKind.{ClassKind}
+use Rattle.sa_ast.specs.Types.{BareTy, Named, Same, Rout, Iter}
+use Rattle.sa_unify.specs.declared.names.Names.{Names}
+use Rattle.sa_unify.specs.Numbers.{class_place, number_in, row_of, AreNamesOf, kind_bare, kind_of_name, name_of, arity_of}
 use Rattle.sa_subtypes.specs.Subtypes.{class_named, is_immutable_kind, is_immutable_type}
 use Rattle.sa_subtypes.proofs.ClassPlaces.{named-numbered, numbered-named}
 
@@ -30,7 +30,7 @@ module _ (classes : List Class) (names : Names) (are : AreNamesOf classes names)
   arity-is k c h = ap (λ o. option_map_or (λ row. row.arity) o 0) (row-is k c h)
 
   -- whether a kind that is known is that of immutable classes
-  abbrev pub immutable : Option Kind → Bool
+  abbrev pub immutable : Option ClassKind → Bool
   immutable kind = option_map_or is_immutable_kind kind false
 
   no_number : (name : List ℕ) → class_named classes name ≡ None → class_place classes 0 name ≡ None
@@ -61,7 +61,7 @@ module _ (classes : List Class) (names : Names) (are : AreNamesOf classes names)
           ap (λ o. option_map (λ r. r.kind) (option_and_then (slice_get names.rows.items) o)) (number-is name ∙ r.1.number)
           ∙ ap (option_map (λ row. row.kind)) (row-is r.0 c r.1.there)
 
-pub kind-immutable : (flat : Flat) (names : Names) → AreNamesOf flat.classes names → (t : BareTy) → option_map_or is_immutable_kind (kind_bare names t) false ≡ is_immutable_type flat t
+pub kind-immutable : (flat : FlatClass) (names : Names) → AreNamesOf flat.classes names → (t : BareTy) → option_map_or is_immutable_kind (kind_bare names t) false ≡ is_immutable_type flat t
 kind-immutable flat names are (Named name params) = named-immutable flat.classes names are name
 kind-immutable flat names are Same = refl
 kind-immutable flat names are (Rout args of) = refl

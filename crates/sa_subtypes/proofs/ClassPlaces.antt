@@ -3,10 +3,10 @@ use Rattle.std.proofs.Common.{◌≡◌, ℕ, suc, ◌+◌, ◌<◌, Bool, true,
 use Rattle.std.proofs.lemmas.Option.{none-some}
 use Rattle.std.proofs.lemmas.Slice.Eq.{bytes_eq-Decides}
 use Rattle.std.specs.Cmp.Lexicographic.{pointwise}
-use Rattle.sa_tree.specs.declared.class.Class.{Class}
-use Rattle.sa_tree.specs.declared.class.Param.{Param}
+use Rattle.sa_ast.specs.declared.class.Class.{Class}
+use Rattle.sa_ast.specs.declared.class.TypeParam.{TypeParam}
 use Rattle.sa_types.specs.Substitution.{place_of}
-use Rattle.sa_subtypes_pairs.specs.Numbers.{class_place}
+use Rattle.sa_unify.specs.Numbers.{class_place}
 use Rattle.sa_subtypes.specs.Subtypes.{class_named}
 
 same_class : (d c : Class) → Some d ≡ Some c → d ≡ c
@@ -75,7 +75,7 @@ numbered-named classes name k h =
 
 -- ---- the places of parameters
 
-pub place_of-within : (params : List Param) (i : ℕ) (name : List ℕ) (k : ℕ) → place_of params i name ≡ Some k → k < i + length params
+pub place_of-within : (params : List TypeParam) (i : ℕ) (name : List ℕ) (k : ℕ) → place_of params i name ≡ Some k → k < i + length params
 place_of-within [] i name k h = absurd (none-some k h)
 place_of-within (p ∷ more) i name k h = go (λ e. place_of-within more (i + 1) name k e) (pointwise nat_eq p.name.name name) h
   where

@@ -4,17 +4,17 @@ use Rattle.std.specs.Prelude.{slice_get}
 use Rattle.std.specs.Option.{option_map, option_or}
 use Rattle.std.proofs.lemmas.Bool.Decides.{nat_tests}
 use Rattle.std.proofs.lemmas.List.{drop_more, drop_all, length-map}
-use Rattle.sa_tree.specs.declared.pos.Pos.{Pos}
-use Rattle.sa_tree.specs.declared.ty.Mode.{Mode}
-use Rattle.sa_tree.specs.declared.ty.ModeTy.{ModeTy}
-use Rattle.sa_tree.specs.declared.ty.Ty.{Ty}
-use Rattle.sa_tree.specs.declared.ty.Ty.TheVariants as ty
-use Rattle.sa_tree.specs.Types.{BareTy, BareTys, bare, bare_arg, bare_tys, all_bare, all_bare_args, option_bare}
-use Rattle.sa_tree.proofs.BareTypes.{bare-Named, bare-Same, bare-Rout, bare-Iter, bare_arg-parts}
-use Rattle.sa_subtypes_pairs.specs.declared.pattern.Node.{Node}
-use Rattle.sa_subtypes_pairs.specs.declared.pattern.Node.TheVariants as node
-use Rattle.sa_subtypes.specs.Questions.{is_class, is_list, is_routine, is_iter, is_type_head, is_head, a_variable, a_head, another, headed, node_meets, meets, Seen, found, past, unlike, seen_then, met_then, walk_mode, walk_inside, walk_all, walk_args, walk_result, walk, walk_arg, sought, is_wanted, seeking, item_seen, first_in, value_below, value_from, is_number, counts_up, same_item, stands, passed_if, comparing, is_past, is_end, both_fit, class_fits, upper_fits, first_fits, pair_fits}
-use Rattle.sa_subtypes_pairs.specs.Spelled.{count_types, count_args, count_result, Item, a_type, a_mode}
+use Rattle.sa_ast.specs.declared.pos.Pos.{Pos}
+use Rattle.sa_ast.specs.declared.ty.Mode.{Mode}
+use Rattle.sa_ast.specs.declared.ty.ModeTy.{ModeTy}
+use Rattle.sa_ast.specs.declared.ty.Ty.{Ty}
+use Rattle.sa_ast.specs.declared.ty.Ty.TheVariants as ty
+use Rattle.sa_ast.specs.Types.{BareTy, BareTys, bare, bare_arg, bare_tys, all_bare, all_bare_args, option_bare}
+use Rattle.sa_ast.proofs.BareTypes.{bare-Named, bare-Same, bare-Rout, bare-Iter, bare_arg-parts}
+use Rattle.sa_unify.specs.declared.pattern.Node.{Node}
+use Rattle.sa_unify.specs.declared.pattern.Node.TheVariants as node
+use Rattle.sa_subtypes.specs.Questions.{is_class, is_list, is_routine, is_iter, is_type_head, is_head, a_variable, a_head, another, headed, node_meets, meets, Seen, found, past, unlike, seen_then, met_then, walk_mode, walk_inside, walk_all, walk_args, walk_result, walk, walk_arg, sought, is_wanted, seeking, item_seen, first_in, value_below, value_from, is_number, counts_up, same_item, occurs, passed_if, comparing, is_past, is_end, both_fit, class_fits, upper_fits, first_fits, pair_fits}
+use Rattle.sa_unify.specs.Spelled.{count_types, count_args, count_result, Item, a_type, a_mode}
 
 -- ---- the whole
 
@@ -66,8 +66,8 @@ pub end-before : (nodes : List Node) (place : ℕ) → place < length nodes → 
 end-before [] place h = absurd (omega (arith, h))
 end-before (a ∷ nodes) place h = sym (ap (λ l. is_end (past l)) (drop_more (a ∷ nodes) place a h))
 
-pub end-behind : (nodes : List Node) (place : ℕ) → length nodes ≤ place → true ≡ is_end (past (drop place nodes))
-end-behind nodes place h = sym (ap (λ l. is_end (past l)) (drop_all place nodes h))
+pub end-following : (nodes : List Node) (place : ℕ) → length nodes ≤ place → true ≡ is_end (past (drop place nodes))
+end-following nodes place h = sym (ap (λ l. is_end (past l)) (drop_all place nodes h))
 
 pub end-past : (next : List Node) (w : Seen) (r : Bool) → past next ≡ w → r ≡ is_end (past next) → r ≡ is_end w
 end-past next w r e h = h ∙ ap is_end e
@@ -75,15 +75,15 @@ end-past next w r e h = h ∙ ap is_end e
 pub end-none : (w : Seen) → unlike ≡ w → false ≡ is_end w
 end-none w e = ap is_end e
 
-pub ruleset ends = (fits-none, fits-both, end-before, end-behind, end-past, end-none)
+pub ruleset ends = (fits-none, fits-both, end-before, end-following, end-past, end-none)
 
 -- ---- what stands for a variable
 
-pub stands-Some : (o : Option Item) (i j : Item) (r : Bool) → Some i ≡ o → r ≡ same_item i j → r ≡ stands o j
-stands-Some o i j r e h = h ∙ ap (λ x. stands x j) e
+pub occurs-Some : (o : Option Item) (i j : Item) (r : Bool) → Some i ≡ o → r ≡ same_item i j → r ≡ occurs o j
+occurs-Some o i j r e h = h ∙ ap (λ x. occurs x j) e
 
-pub stands-None : (o : Option Item) (j : Item) → None ≡ o → false ≡ stands o j
-stands-None o j e = ap (λ x. stands x j) e
+pub occurs-None : (o : Option Item) (j : Item) → None ≡ o → false ≡ occurs o j
+occurs-None o j e = ap (λ x. occurs x j) e
 
 pub type-at : (types : List Ty) (n : ℕ) (t : Ty) → n < length types → t ≡ get_or types n t → Some (a_type (bare t)) ≡ option_map a_type (slice_get (map bare types) n)
 type-at [] n t h e = absurd (omega (arith, h))
@@ -122,7 +122,7 @@ module _ (plain : Bool) (lower upper : List BareTy) (nodes above : List Node) (n
   unfolding value_from
   value-above o e h = h ∙ ap (λ x. option_or x (first_in number (bare_tys upper) above)) e
 
-pub ruleset values = (stands-Some, stands-None, type-at, type-past, first-found, first-past, first-unlike, below-plain, below-other, value-below, value-above)
+pub ruleset values = (occurs-Some, occurs-None, type-at, type-past, first-found, first-past, first-unlike, below-plain, below-other, value-below, value-above)
 
 -- ---- plain variables
 
@@ -226,19 +226,19 @@ pub ruleset bound = (nat_tests, bound-None, bound-Some)
 -- ---- at a variable
 
 module _ (value : ℕ → Option Item) (number : ℕ) (nodes next : List Node) (b : Bool) where
-  pub type-stands : (t : BareTy) → a_variable number next ≡ meets (a_type t) nodes → b ≡ stands (value number) (a_type t) → b ≡ true → past next ≡ walk (comparing value) t nodes
+  pub type-occurs : (t : BareTy) → a_variable number next ≡ meets (a_type t) nodes → b ≡ occurs (value number) (a_type t) → b ≡ true → past next ≡ walk (comparing value) t nodes
   unfolding walk comparing
-  type-stands t m e f = ap (λ c. passed_if c next) (sym (sym e ∙ f)) ∙ ap (met_then (comparing value) (a_type t) (λ rest. walk_inside (comparing value) t rest)) m
+  type-occurs t m e f = ap (λ c. passed_if c next) (sym (sym e ∙ f)) ∙ ap (met_then (comparing value) (a_type t) (λ rest. walk_inside (comparing value) t rest)) m
 
-  pub type-differs : (t : BareTy) → a_variable number next ≡ meets (a_type t) nodes → b ≡ stands (value number) (a_type t) → b ≡ false → unlike ≡ walk (comparing value) t nodes
+  pub type-differs : (t : BareTy) → a_variable number next ≡ meets (a_type t) nodes → b ≡ occurs (value number) (a_type t) → b ≡ false → unlike ≡ walk (comparing value) t nodes
   unfolding walk comparing
   type-differs t m e f = ap (λ c. passed_if c next) (sym (sym e ∙ f)) ∙ ap (met_then (comparing value) (a_type t) (λ rest. walk_inside (comparing value) t rest)) m
 
-  pub mode-stands : (k : Mode) → a_variable number next ≡ meets (a_mode k) nodes → b ≡ stands (value number) (a_mode k) → b ≡ true → past next ≡ walk_mode (comparing value) k nodes
+  pub mode-occurs : (k : Mode) → a_variable number next ≡ meets (a_mode k) nodes → b ≡ occurs (value number) (a_mode k) → b ≡ true → past next ≡ walk_mode (comparing value) k nodes
   unfolding walk_mode comparing
-  mode-stands k m e f = ap (λ c. passed_if c next) (sym (sym e ∙ f)) ∙ ap (met_then (comparing value) (a_mode k) past) m
+  mode-occurs k m e f = ap (λ c. passed_if c next) (sym (sym e ∙ f)) ∙ ap (met_then (comparing value) (a_mode k) past) m
 
-  pub mode-differs : (k : Mode) → a_variable number next ≡ meets (a_mode k) nodes → b ≡ stands (value number) (a_mode k) → b ≡ false → unlike ≡ walk_mode (comparing value) k nodes
+  pub mode-differs : (k : Mode) → a_variable number next ≡ meets (a_mode k) nodes → b ≡ occurs (value number) (a_mode k) → b ≡ false → unlike ≡ walk_mode (comparing value) k nodes
   unfolding walk_mode comparing
   mode-differs k m e f = ap (λ c. passed_if c next) (sym (sym e ∙ f)) ∙ ap (met_then (comparing value) (a_mode k) past) m
 
@@ -382,7 +382,7 @@ module _ (visit : ℕ → Item → List Node → Seen) where
   unfolding walk_args
   args-end xs i nodes whole g h = sym (g ∙ ap (λ l. walk_args visit (all_bare_args l) nodes) (drop_all i xs h))
 
-pub ruleset steps = (type-stands, type-differs, mode-stands, mode-differs, type-wanted, type-passed, mode-wanted, mode-passed, type-head, type-another, mode-head, mode-another)
+pub ruleset steps = (type-occurs, type-differs, mode-occurs, mode-differs, type-wanted, type-passed, mode-wanted, mode-passed, type-head, type-another, mode-head, mode-another)
 
 pub ruleset insides = (inside-Named, inside-Same, Rout-past, Rout-found, Rout-unlike, Iter-past, Iter-found, Iter-unlike, arg-past, arg-found, arg-unlike, result-None, result-Some)
 

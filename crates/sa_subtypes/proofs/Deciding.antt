@@ -3,22 +3,22 @@ use Rattle.std.proofs.Common.{◌≡◌, ◌≢◌, ◌⊎◌, inl, inr, ℕ, ze
 use Rattle.std.specs.Prelude.{◌↔◌, not}
 use Rattle.std.specs.Cmp.{first_so, second_so}
 use Rattle.std.proofs.lemmas.Bool.{eqb-true, eq-eqb}
-use Rattle.sa_tree.specs.Types.{BareTy, BareTys, no_types, type, bare_tys}
-use Rattle.sa_tree.specs.TypeEquality.{same_type, same_types, same_type_Decides}
-use Rattle.sa_subtypes_lineage.specs.declared.lineage.Above.{Above}
-use Rattle.sa_subtypes_lineage.specs.declared.links.Link.{Link}
-use Rattle.sa_subtypes_pairs.specs.declared.pattern.Node.{Node}
-use Rattle.sa_subtypes_lineage.specs.Lines.{in_line}
+use Rattle.sa_ast.specs.Types.{BareTy, BareTys, no_types, type, bare_tys}
+use Rattle.sa_ast.specs.TypeEquality.{same_type, same_types, same_type_Decides}
+use Rattle.sa_hierarchy.specs.declared.class_hierarchy.Ancestor.{Ancestor}
+use Rattle.sa_hierarchy.specs.declared.links.ParentLink.{ParentLink}
+use Rattle.sa_unify.specs.declared.pattern.Node.{Node}
+use Rattle.sa_hierarchy.specs.Lines.{in_line}
 use Rattle.sa_subtypes.specs.Deciding.{some_place, in_tree, is_by, entry_by, place_by, range_by, list_by, link_by, in_list, found_in}
-use Rattle.sa_subtypes_lineage.specs.Lineages.{Tables, At, class_at, pair_of, Line, AreLinked, InList, HasForm, AreTried, InLine, ByList, IsFound}
+use Rattle.sa_hierarchy.specs.Hierarchies.{Tables, At, class_at, pair_of, Line, AreLinked, InList, HasForm, AreTried, InLine, ByList, IsFound}
 use Rattle.sa_subtypes.specs.Questions.{pair_fits}
-use Rattle.sa_subtypes_pairs.specs.Spelled.{count_types, spelled_all, read_types}
-use Rattle.sa_subtypes_pairs.specs.Terms.{IsInstance}
-use Rattle.sa_subtypes_lineage.proofs.Tests.{or-cases, or_first, or_second, both}
-use Rattle.sa_subtypes_lineage.proofs.LineTests.{line-decides}
+use Rattle.sa_unify.specs.Spelled.{count_types, spelled_all, read_types}
+use Rattle.sa_unify.specs.Terms.{IsInstance}
+use Rattle.sa_hierarchy.proofs.Tests.{or-cases, or_first, or_second, both}
+use Rattle.sa_hierarchy.proofs.LineTests.{line-decides}
 use Rattle.sa_subtypes.proofs.PairsFor.{BecomesPair, pair-for}
 use Rattle.sa_subtypes.proofs.Questions.{fits-exact}
-use Rattle.sa_subtypes_pairs.proofs.Spelling.{read-spelled_all}
+use Rattle.sa_unify.proofs.Spelling.{read-spelled_all}
 
 other_test : (m n : ℕ) → m ≢ n → nat_eq m n ≡ false
 other_test m n h = go (nat_eq m n) refl
@@ -122,7 +122,7 @@ module _ (w : Tables) (tried : AreTried w) where
     -- ---- a pair of a list
 
     -- it leads from a class with these arguments to the class, or to one below it in its tree
-    record IsBy (entry : Above) : Type 0 where
+    record IsBy (entry : Ancestor) : Type 0 where
       line : Line w.links entry.upper upper
       ends : (entry.upper ≡ upper) ⊎ (length above ≡ w.arity upper)
       head : List ℕ
@@ -155,7 +155,7 @@ module _ (w : Tables) (tried : AreTried w) where
     either-all m n k j (inl e) = or_first _ _ (eq-eqb m n e)
     either-all m n k j (inr e) = or_second (nat_eq m n) _ (eq-eqb k j e)
 
-    is_by-true : (entry : Above) (name : List ℕ) (count : ℕ) → HasForm (w.nodes entry.pair) name count → is_by w entry args upper above ≡ true → IsBy entry
+    is_by-true : (entry : Ancestor) (name : List ℕ) (count : ℕ) → HasForm (w.nodes entry.pair) name count → is_by w entry args upper above ≡ true → IsBy entry
     unfolding is_by
     is_by-true entry name count form h =
         let one = nat_eq entry.upper upper || nat_eq (length above) (w.arity upper) in
@@ -170,7 +170,7 @@ module _ (w : Tables) (tried : AreTried w) where
           instance = i.1;
         }
 
-    is_by-all : (entry : Above) (name : List ℕ) (count : ℕ) → HasForm (w.nodes entry.pair) name count → IsBy entry → is_by w entry args upper above ≡ true
+    is_by-all : (entry : Ancestor) (name : List ℕ) (count : ℕ) → HasForm (w.nodes entry.pair) name count → IsBy entry → is_by w entry args upper above ≡ true
     unfolding is_by
     is_by-all entry name count form h =
         both _ _ (both _ _ (either-all entry.upper upper (length above) (w.arity upper) h.ends) ((line-decides w.links linked entry.upper upper).1 h.line)) ((fits-instance (w.nodes entry.pair) name count form).1 (h.head, h.instance))
@@ -178,12 +178,12 @@ module _ (w : Tables) (tried : AreTried w) where
     -- ---- the pair at a place
 
     record ByPlace (root place : ℕ) : Type 0 where
-      entry : Above
+      entry : Ancestor
       is : slice_get w.above place ≡ Some entry
       owner : entry.class ≡ root
       by : IsBy entry
 
-    entry-true : (root place : ℕ) (o : Option Above) → slice_get w.above place ≡ o → entry_by w root args upper above o ≡ true → ByPlace root place
+    entry-true : (root place : ℕ) (o : Option Ancestor) → slice_get w.above place ≡ o → entry_by w root args upper above o ≡ true → ByPlace root place
     entry-true root place None is h = absurd (true≢false (sym h))
     entry-true root place (Some entry) is h =
         let sound = tried.lists.each place entry is in
@@ -199,7 +199,7 @@ module _ (w : Tables) (tried : AreTried w) where
     unfolding place_by
     place-true root place h = entry-true root place (slice_get w.above place) refl h
 
-    place-all : (root place : ℕ) (entry : Above) → slice_get w.above place ≡ Some entry → entry.class ≡ root → IsBy entry → place_by w root args upper above place ≡ true
+    place-all : (root place : ℕ) (entry : Ancestor) → slice_get w.above place ≡ Some entry → entry.class ≡ root → IsBy entry → place_by w root args upper above place ≡ true
     unfolding place_by
     place-all root place entry is owner by =
         let sound = tried.lists.each place entry is in
@@ -209,7 +209,7 @@ module _ (w : Tables) (tried : AreTried w) where
 
     record ByRoot (root : ℕ) : Type 0 where
       place : ℕ
-      entry : Above
+      entry : Ancestor
       listed : InList w root place entry
       by : IsBy entry
 
@@ -238,7 +238,7 @@ module _ (w : Tables) (tried : AreTried w) where
     unfolding list_by
     list-true root h = range-true root (slice_get w.lists root) refl h
 
-    list-all : (root place : ℕ) (entry : Above) → InList w root place entry → IsBy entry → list_by w root args upper above ≡ true
+    list-all : (root place : ℕ) (entry : Ancestor) → InList w root place entry → IsBy entry → list_by w root args upper above ≡ true
     unfolding list_by
     list-all root place entry listed by =
         let range = listed.range in
@@ -248,7 +248,7 @@ module _ (w : Tables) (tried : AreTried w) where
 
     -- ---- that of the root of a class
 
-    link-true : (lower : ℕ) (o : Option Link) → slice_get w.links lower ≡ o → link_by w lower args upper above o ≡ true → ByList w (at_types lower args) (at_types upper above)
+    link-true : (lower : ℕ) (o : Option ParentLink) → slice_get w.links lower ≡ o → link_by w lower args upper above o ≡ true → ByList w (at_types lower args) (at_types upper above)
     link-true lower None is h = absurd (true≢false (sym h))
     link-true lower (Some link) is h =
         let one = nat_eq link.root lower || nat_eq (length args) (w.arity lower) in

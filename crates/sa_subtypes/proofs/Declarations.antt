@@ -2,27 +2,27 @@
 use Rattle.std.proofs.Common.{◌≡◌, inl, inr, ◌≢◌, true≢false, ℕ, zero, suc, ◌<◌, Bool, true, false, cond, nat_eq, List, [], ◌∷◌, ◌++◌, Option, Some, None, length, flat_map, slice_get, refl, sym, ap, subst, ◌∙◌, arith}
 use Rattle.std.proofs.lemmas.Bool.{eqb-true, eq-eqb}
 use Rattle.std.proofs.lemmas.Option.{none-some, slice_get_within}
-use Rattle.sa_tree.specs.declared.class.Class.{Class}
-use Rattle.sa_tree.specs.declared.class.Flat.{Flat}
-use Rattle.sa_tree.specs.declared.ty.Ty.{Ty}
-use Rattle.sa_tree.specs.Types.{BareTy, Named, Same, Rout, Iter, BareTys, no_types, type, bare, all_bare}
-use Rattle.sa_tree.proofs.BareTypes.{bare-Named}
+use Rattle.sa_ast.specs.declared.class.Class.{Class}
+use Rattle.sa_ast.specs.declared.class.FlatClass.{FlatClass}
+use Rattle.sa_ast.specs.declared.ty.Ty.{Ty}
+use Rattle.sa_ast.specs.Types.{BareTy, Named, Same, Rout, Iter, BareTys, no_types, type, bare, all_bare}
+use Rattle.sa_ast.proofs.BareTypes.{bare-Named}
 use Rattle.sa_types.specs.AtTypes.{own_type, at_instance}
 use Rattle.sa_types.specs.Substitution.{place_of}
-use Rattle.sa_subtypes_pairs.specs.declared.pattern.Node.{Node}
-use Rattle.sa_subtypes_pairs.specs.declared.pattern.Node.TheVariants as node
-use Rattle.sa_subtypes_pairs.specs.Terms.{behind, Values, AreTerms, substitute}
-use Rattle.sa_subtypes_pairs.specs.Spelled.{count_types, read_type, read_types}
-use Rattle.sa_subtypes_pairs.specs.Patterns.{pair_nodes, below_nodes, above_nodes, IsNamedIn, head_name}
-use Rattle.sa_subtypes_pairs.specs.Numbers.{class_place}
-use Rattle.sa_subtypes_pairs.specs.Edges.{EdgeNodes, number_alone, class_number, edge_up, edge_down, edge_below, edge_above, edges_in, where_own, edges_at, edges_upto, declared_edges}
+use Rattle.sa_unify.specs.declared.pattern.Node.{Node}
+use Rattle.sa_unify.specs.declared.pattern.Node.TheVariants as node
+use Rattle.sa_unify.specs.Terms.{following, Values, AreTerms, substitute}
+use Rattle.sa_unify.specs.Spelled.{count_types, read_type, read_types}
+use Rattle.sa_unify.specs.Patterns.{pair_nodes, below_nodes, above_nodes, IsNamedIn, head_name}
+use Rattle.sa_unify.specs.Numbers.{class_place}
+use Rattle.sa_unify.specs.DeclaredEdges.{EdgeNodes, number_alone, class_number, edge_up, edge_down, edge_below, edge_above, edges_in, where_own, edges_at, edges_upto, declared_edges}
 use Rattle.sa_subtypes.specs.Subtypes.{class_named, IsClass, IsClassIn, DeclaresBelow, DeclaresAbove, IsEdge}
 use Rattle.sa_subtypes.proofs.ClassPlaces.{IsNumbered, named-numbered, numbered-named, place_of-within}
-use Rattle.sa_subtypes_pairs.proofs.Dressed.{count-all_bare, dress_all, all_bare-dressed, length-dressed}
+use Rattle.sa_unify.proofs.Dressed.{count-all_bare, dress_all, all_bare-dressed, length-dressed}
 use Rattle.sa_subtypes.proofs.Instances.{bare-at_instance}
 use Rattle.sa_subtypes.proofs.Members.{Among, among_left, among_right, among-append, among-contains, contains-among, among-flat_map, among_from-flat_map}
-use Rattle.sa_subtypes_pairs.proofs.Owns.{readings, count-readings}
-use Rattle.sa_subtypes_pairs.proofs.Patterns.{type_in, args_in, type_in-class, spelled_at, spelled_at-terms, substitute-below, substitute-above, ReadsAs, read-below, read-above}
+use Rattle.sa_unify.proofs.Owns.{readings, count-readings}
+use Rattle.sa_unify.proofs.Patterns.{type_in, args_in, type_in-class, spelled_at, spelled_at-terms, substitute-below, substitute-above, ReadsAs, read-below, read-above}
 
 same_number : (m n : ℕ) → Some m ≡ Some n → m ≡ n
 same_number m n e = cc
@@ -71,7 +71,7 @@ upto-among number classes (suc n) e a =
     here None there h = absurd h
     here (Some c) there h = record { at_place = n; by = c; there = there; has = h }
 
-module _ (flat : Flat) where
+module _ (flat : FlatClass) where
   abbrev pub number_of : List ℕ → Option ℕ
   number_of = class_place flat.classes 0
 
@@ -285,7 +285,7 @@ module _ (flat : Flat) where
     number-at : (v : BareTy) (k : ℕ) (at_class : IsClassAt c own numbered v) → class_number number_of (place_of c.params 0) own c.name.name (length c.params) v ≡ Some k → slice_get flat.classes k ≡ Some at_class.of
     number-at v k at_class h = ap (slice_get flat.classes) (same_number k at_class.number (sym h ∙ at_class.class_is)) ∙ at_class.there
 
-    from-up : (u : Ty) → Among u c.below → (e : EdgeNodes) (n : ℕ) (l x : List Node) → behind l n ≡ Some [] → substitute values e.2 ≡ node.List n ∷ l ++ x → (k : ℕ) → class_number number_of (place_of c.params 0) own c.name.name (length c.params) (bare u) ≡ Some k → (own, k, below_nodes (place_of c.params 0) c.name.name (length c.params) (bare u)) ≡ e → IsReadAs e n l x
+    from-up : (u : Ty) → Among u c.below → (e : EdgeNodes) (n : ℕ) (l x : List Node) → following l n ≡ Some [] → substitute values e.2 ≡ node.List n ∷ l ++ x → (k : ℕ) → class_number number_of (place_of c.params 0) own c.name.name (length c.params) (bare u) ≡ Some k → (own, k, below_nodes (place_of c.params 0) c.name.name (length c.params) (bare u)) ≡ e → IsReadAs e n l x
     from-up u a e n l x h nodes k is same =
         let v = bare u in
         let place = place_of c.params 0 in
@@ -302,7 +302,7 @@ module _ (flat : Flat) where
           is_edge = (c, own_class, inl (given, u, length-given, contains-among c.below u a, inside, ap (Named c.name.name) reads.lower ∙ own-given, reads.upper ∙ instance-given u));
         }
 
-    from-down : (u : Ty) → Among u c.above → (e : EdgeNodes) (n : ℕ) (l x : List Node) → behind l n ≡ Some [] → substitute values e.2 ≡ node.List n ∷ l ++ x → (k : ℕ) → class_number number_of (place_of c.params 0) own c.name.name (length c.params) (bare u) ≡ Some k → (k, own, above_nodes (place_of c.params 0) c.name.name (length c.params) (bare u)) ≡ e → IsReadAs e n l x
+    from-down : (u : Ty) → Among u c.above → (e : EdgeNodes) (n : ℕ) (l x : List Node) → following l n ≡ Some [] → substitute values e.2 ≡ node.List n ∷ l ++ x → (k : ℕ) → class_number number_of (place_of c.params 0) own c.name.name (length c.params) (bare u) ≡ Some k → (k, own, above_nodes (place_of c.params 0) c.name.name (length c.params) (bare u)) ≡ e → IsReadAs e n l x
     from-down u a e n l x h nodes k is same =
         let v = bare u in
         let place = place_of c.params 0 in
@@ -321,7 +321,7 @@ module _ (flat : Flat) where
           is_edge = (c, own_class, inr (given, u, length-given, contains-among c.above u a, inside, lower, reads.upper ∙ own-given));
         }
 
-    from-below : (e : EdgeNodes) (n : ℕ) (l x : List Node) → behind l n ≡ Some [] → substitute values e.2 ≡ node.List n ∷ l ++ x → (u : Ty) → Among u c.below → Among e (edge_below number_of (place_of c.params 0) own c.name.name (length c.params) (bare u)) → IsReadAs e n l x
+    from-below : (e : EdgeNodes) (n : ℕ) (l x : List Node) → following l n ≡ Some [] → substitute values e.2 ≡ node.List n ∷ l ++ x → (u : Ty) → Among u c.below → Among e (edge_below number_of (place_of c.params 0) own c.name.name (length c.params) (bare u)) → IsReadAs e n l x
     from-below e n l x h nodes u a b = go (class_number number_of (place_of c.params 0) own c.name.name (length c.params) (bare u)) refl b
       where
         go : (o : Option ℕ) → class_number number_of (place_of c.params 0) own c.name.name (length c.params) (bare u) ≡ o → Among e (edge_up number_of (place_of c.params 0) own c.name.name (length c.params) (bare u) o) → IsReadAs e n l x
@@ -329,7 +329,7 @@ module _ (flat : Flat) where
         go (Some k) is (inl same) = from-up u a e n l x h nodes k is same
         go (Some k) is (inr m) = absurd m
 
-    from-above : (e : EdgeNodes) (n : ℕ) (l x : List Node) → behind l n ≡ Some [] → substitute values e.2 ≡ node.List n ∷ l ++ x → (u : Ty) → Among u c.above → Among e (edge_above number_of (place_of c.params 0) own c.name.name (length c.params) (bare u)) → IsReadAs e n l x
+    from-above : (e : EdgeNodes) (n : ℕ) (l x : List Node) → following l n ≡ Some [] → substitute values e.2 ≡ node.List n ∷ l ++ x → (u : Ty) → Among u c.above → Among e (edge_above number_of (place_of c.params 0) own c.name.name (length c.params) (bare u)) → IsReadAs e n l x
     from-above e n l x h nodes u a b = go (class_number number_of (place_of c.params 0) own c.name.name (length c.params) (bare u)) refl b
       where
         go : (o : Option ℕ) → class_number number_of (place_of c.params 0) own c.name.name (length c.params) (bare u) ≡ o → Among e (edge_down number_of (place_of c.params 0) own c.name.name (length c.params) (bare u) o) → IsReadAs e n l x
@@ -337,7 +337,7 @@ module _ (flat : Flat) where
         go (Some k) is (inl same) = from-down u a e n l x h nodes k is same
         go (Some k) is (inr m) = absurd m
 
-    from-class : (e : EdgeNodes) (n : ℕ) (l x : List Node) → behind l n ≡ Some [] → substitute values e.2 ≡ node.List n ∷ l ++ x → Among e (edges_in number_of (place_of c.params 0) own c.name.name (length c.params) c.below c.above) → IsReadAs e n l x
+    from-class : (e : EdgeNodes) (n : ℕ) (l x : List Node) → following l n ≡ Some [] → substitute values e.2 ≡ node.List n ∷ l ++ x → Among e (edges_in number_of (place_of c.params 0) own c.name.name (length c.params) c.below c.above) → IsReadAs e n l x
     from-class e n l x h nodes m =
         let below = λ (u : Ty). edge_below number_of (place_of c.params 0) own c.name.name (length c.params) (bare u) in
         let above = λ (u : Ty). edge_above number_of (place_of c.params 0) own c.name.name (length c.params) (bare u) in
@@ -346,7 +346,7 @@ module _ (flat : Flat) where
           | inr b ↦ (let f = among_from-flat_map above c.above e b in from-above e n l x h nodes f.0 f.1 f.2)
         ]
 
-  pub declared-edge : (e : EdgeNodes) → Among e all_edges → (values : Values) → AreTerms values → (n : ℕ) (l x : List Node) → behind l n ≡ Some [] → substitute values e.2 ≡ node.List n ∷ l ++ x → IsReadAs e n l x
+  pub declared-edge : (e : EdgeNodes) → Among e all_edges → (values : Values) → AreTerms values → (n : ℕ) (l x : List Node) → following l n ≡ Some [] → substitute values e.2 ≡ node.List n ∷ l ++ x → IsReadAs e n l x
   declared-edge e a values terms n l x h nodes =
       let p = upto-among number_of flat.classes (length flat.classes) e a in
       let c = p.by in

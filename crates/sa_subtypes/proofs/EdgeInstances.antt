@@ -1,26 +1,26 @@
 -- An instance of the nodes of a declared edge between two classes, with the arguments of both, is an edge of the relation between the types that these are; and each edge of the relation is such an instance.
 use Rattle.std.proofs.Common.{◌≡◌, ℕ, List, [], ◌∷◌, ◌++◌, Some, slice_get, refl, sym, ap, subst, ◌∙◌}
-use Rattle.sa_tree.specs.declared.class.Class.{Class}
-use Rattle.sa_tree.specs.declared.class.Flat.{Flat}
-use Rattle.sa_tree.specs.Types.{BareTy, Named, BareTys}
-use Rattle.sa_subtypes_pairs.specs.declared.pattern.Node.{Node}
-use Rattle.sa_subtypes_pairs.specs.declared.pattern.Node.TheVariants as node
-use Rattle.sa_subtypes_pairs.specs.Terms.{behind, Values, AreTerms, substitute}
-use Rattle.sa_subtypes_pairs.specs.Spelled.{count_types, spelled, spelled_all, type_of, first_item, read_type, read_types}
-use Rattle.sa_subtypes_pairs.specs.Edges.{EdgeNodes}
+use Rattle.sa_ast.specs.declared.class.Class.{Class}
+use Rattle.sa_ast.specs.declared.class.FlatClass.{FlatClass}
+use Rattle.sa_ast.specs.Types.{BareTy, Named, BareTys}
+use Rattle.sa_unify.specs.declared.pattern.Node.{Node}
+use Rattle.sa_unify.specs.declared.pattern.Node.TheVariants as node
+use Rattle.sa_unify.specs.Terms.{following, Values, AreTerms, substitute}
+use Rattle.sa_unify.specs.Spelled.{count_types, spelled, spelled_all, type_of, first_item, read_type, read_types}
+use Rattle.sa_unify.specs.DeclaredEdges.{EdgeNodes}
 use Rattle.sa_subtypes.specs.Subtypes.{IsEdge}
 use Rattle.sa_subtypes.proofs.Declarations.{number_of, all_edges, edge-declared, declared-edge}
 use Rattle.sa_subtypes.proofs.Members.{Among}
-use Rattle.sa_subtypes_pairs.proofs.Owns.{spelled-Named}
-use Rattle.sa_subtypes_pairs.proofs.Readings.{read-node}
+use Rattle.sa_unify.proofs.Owns.{spelled-Named}
+use Rattle.sa_unify.proofs.Readings.{read-node}
 
 same_name : (name other : List ℕ) (ts us : BareTys) → Named name ts ≡ Named other us → name ≡ other
 same_name name other ts us e = cc
 
-pub read-Class : (name : List ℕ) (count : ℕ) (args : List Node) → behind args count ≡ Some [] → read_type (node.Class name count ∷ args) ≡ Named name (read_types args count)
+pub read-Class : (name : List ℕ) (count : ℕ) (args : List Node) → following args count ≡ Some [] → read_type (node.Class name count ∷ args) ≡ Named name (read_types args count)
 read-Class name count args h = ap (λ l. type_of (first_item l)) (read-node (node.Class name count) args h)
 
-module _ (flat : Flat) where
+module _ (flat : FlatClass) where
   -- the nodes of an edge between the classes with these numbers become this
   pub record Declares (lower upper : ℕ) (instance : List Node) : Type 0 where
     pub edge : EdgeNodes
@@ -40,7 +40,7 @@ module _ (flat : Flat) where
     pub named : upper_class.name.name ≡ name
     pub is_edge : IsEdge flat (Named lower_class.name.name args) (Named name above)
 
-  pub declares-edge : (lower upper n m : ℕ) (args above : List Node) (name : List ℕ) → behind args n ≡ Some [] → behind above m ≡ Some [] → Declares lower upper (node.List n ∷ args ++ node.Class name m ∷ above) → IsEdgeAt lower upper name (read_types args n) (read_types above m)
+  pub declares-edge : (lower upper n m : ℕ) (args above : List Node) (name : List ℕ) → following args n ≡ Some [] → following above m ≡ Some [] → Declares lower upper (node.List n ∷ args ++ node.Class name m ∷ above) → IsEdgeAt lower upper name (read_types args n) (read_types above m)
   declares-edge lower upper n m args above name h k d =
       let r = declared-edge flat d.edge d.among d.values d.terms n args (node.Class name m ∷ above) h d.to in
       let is : read_type (node.Class name m ∷ above) ≡ Named name (read_types above m) = read-Class name m above k in

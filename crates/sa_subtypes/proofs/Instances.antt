@@ -2,22 +2,22 @@
 use Rattle.std.proofs.Common.{◌≡◌, ℕ, zero, suc, ◌<◌, List, [], ◌∷◌, Option, None, Some, length, map, slice_get, option_map, refl, sym, ap, subst, ◌∙◌, arith}
 use Rattle.std.proofs.Math.Path.{fun_ext}
 use Rattle.std.specs.Option.{option_and_then}
-use Rattle.sa_tree.specs.declared.class.Class.{Class}
-use Rattle.sa_tree.specs.declared.pos.Pos.{Pos}
-use Rattle.sa_tree.specs.declared.ty.ModeTy.{ModeTy}
-use Rattle.sa_tree.specs.declared.ty.Ty.{Ty}
-use Rattle.sa_tree.specs.declared.ty.Ty.TheOpen.{Ty-F}
-use Rattle.sa_tree.specs.declared.ty.Ty.TheFolds.{map-Ty, ind-Ty}
-use Rattle.sa_tree.specs.declared.ty.Ty.TheVariants as ty
-use Rattle.sa_tree.specs.declared.ty.Ty.TheViews.{roll-Ty}
-use Rattle.sa_tree.specs.Types.{BareTy, Named, Rout, Iter, type, arg, gives, bare, bare_arg, all_bare, all_bare_args, option_bare}
-use Rattle.sa_tree.proofs.BareTypes.{bare-Named, bare-Same, bare-Rout, bare-Iter, bare_arg-parts, by_variants}
+use Rattle.sa_ast.specs.declared.class.Class.{Class}
+use Rattle.sa_ast.specs.declared.pos.Pos.{Pos}
+use Rattle.sa_ast.specs.declared.ty.ModeTy.{ModeTy}
+use Rattle.sa_ast.specs.declared.ty.Ty.{Ty}
+use Rattle.sa_ast.specs.declared.ty.Ty.TheOpen.{Ty-F}
+use Rattle.sa_ast.specs.declared.ty.Ty.TheFolds.{map-Ty, ind-Ty}
+use Rattle.sa_ast.specs.declared.ty.Ty.TheVariants as ty
+use Rattle.sa_ast.specs.declared.ty.Ty.TheViews.{roll-Ty}
+use Rattle.sa_ast.specs.Types.{BareTy, Named, Rout, Iter, type, arg, gives, bare, bare_arg, all_bare, all_bare_args, option_bare}
+use Rattle.sa_ast.proofs.BareTypes.{bare-Named, bare-Same, bare-Rout, bare-Iter, bare_arg-parts, by_variants}
 use Rattle.sa_types.specs.Substitution.{place_of, given_for, placed, named_alone, named, substituted, substituted_arg}
 use Rattle.sa_types.proofs.Substituting.{placed-Named, placed-Same, placed-Rout, placed-Iter, substituted-Named, substituted-Same, substituted-Rout, substituted-Iter, substituted_arg-parts}
-use Rattle.sa_subtypes_pairs.specs.Spelled.{standing, instance, instance_all, instance_args, instance_result}
+use Rattle.sa_unify.specs.Spelled.{occurrence, instance, instance_all, instance_args, instance_result}
 use Rattle.sa_types.specs.AtTypes.{own_type, at_instance}
-use Rattle.sa_subtypes_pairs.proofs.Owns.{type_at}
-use Rattle.sa_subtypes_pairs.proofs.Patterns.{type_in}
+use Rattle.sa_unify.proofs.Owns.{type_at}
+use Rattle.sa_unify.proofs.Patterns.{type_in}
 
 -- ---- induction over the types of a source
 
@@ -63,7 +63,7 @@ module _ (value : List ℕ → Option Ty) (same : Ty) where
   abbrev IsInstance : Ty → Type 0
   IsInstance t = bare (substituted value same t) ≡ put_in (bare t)
 
-  bare-alone : (o : Option Ty) (name : List ℕ) (pos : Pos) → bare (named_alone o name pos) ≡ standing (option_map bare o) name
+  bare-alone : (o : Option Ty) (name : List ℕ) (pos : Pos) → bare (named_alone o name pos) ≡ occurrence (option_map bare o) name
   bare-alone None name pos = bare-Named name [] pos
   bare-alone (Some t) name pos = bare-placed pos t
 

@@ -2,14 +2,14 @@
 use Rattle.std.proofs.Common.{◌≡◌, ℕ, ◌+◌, List, [], ◌∷◌, ◌++◌, Some, sym, ap, subst, ◌∙◌}
 use Rattle.std.specs.Prelude.{◌↔◌}
 use Rattle.std.proofs.lemmas.List.{append_cancel_right}
-use Rattle.sa_tree.specs.Types.{BareTys}
-use Rattle.sa_subtypes_pairs.specs.declared.pattern.Node.{Node}
-use Rattle.sa_subtypes_pairs.specs.declared.pattern.Node.TheVariants as node
+use Rattle.sa_ast.specs.Types.{BareTys}
+use Rattle.sa_unify.specs.declared.pattern.Node.{Node}
+use Rattle.sa_unify.specs.declared.pattern.Node.TheVariants as node
 use Rattle.sa_subtypes.specs.Questions.{IsPairFor}
-use Rattle.sa_subtypes_pairs.specs.Spelled.{count_types, spelled_all}
-use Rattle.sa_subtypes_pairs.specs.Terms.{behind, Values, AreTerms, substitute}
+use Rattle.sa_unify.specs.Spelled.{count_types, spelled_all}
+use Rattle.sa_unify.specs.Terms.{following, Values, AreTerms, substitute}
 use Rattle.sa_subtypes.proofs.TypeTerms.{cons-head, cons-tail, all-terms}
-use Rattle.sa_subtypes_pairs.proofs.Terms.{behind_none, behind-append, behind-substitute, substitute-append}
+use Rattle.sa_unify.proofs.Terms.{behind_none, following-append, following-substitute, substitute-append}
 
 -- the pair of two types with these arguments
 abbrev pub pair_for : BareTys → List ℕ → BareTys → List Node
@@ -19,11 +19,11 @@ abbrev pub BecomesPair : List Node → BareTys → BareTys → Type 0
 BecomesPair nodes lower upper = (head : List ℕ) × (values : Values) × AreTerms values × (substitute values nodes ≡ pair_for lower head upper)
 
 -- what is behind equally many terms of one list is the same
-rest-equal : (first other rest more : List Node) (n : ℕ) → behind first n ≡ Some [] → behind other n ≡ Some [] → first ++ rest ≡ other ++ more → (first ≡ other) × (rest ≡ more)
+rest-equal : (first other rest more : List Node) (n : ℕ) → following first n ≡ Some [] → following other n ≡ Some [] → first ++ rest ≡ other ++ more → (first ≡ other) × (rest ≡ more)
 rest-equal first other rest more n h k e =
-    let left : behind (first ++ rest) (n + 0) ≡ Some rest = behind-append first rest n 0 h ∙ behind_none rest in
-    let right : behind (other ++ more) (n + 0) ≡ Some more = behind-append other more n 0 k ∙ behind_none more in
-    let both : Some rest ≡ Some more = sym left ∙ ap (λ l. behind l (n + 0)) e ∙ right in
+    let left : following (first ++ rest) (n + 0) ≡ Some rest = following-append first rest n 0 h ∙ behind_none rest in
+    let right : following (other ++ more) (n + 0) ≡ Some more = following-append other more n 0 k ∙ behind_none more in
+    let both : Some rest ≡ Some more = sym left ∙ ap (λ l. following l (n + 0)) e ∙ right in
     let same : rest ≡ more = cc in
     (append_cancel_right first other more (subst (λ l. first ++ l ≡ other ++ more) same e), same)
 
@@ -41,7 +41,7 @@ becomes nodes lower upper (name, below, above, values, is, terms, first, second)
     (name, values, terms, ap (substitute values) is ∙ ap (λ l. node.List (count_types lower) ∷ l) whole)
 
 -- where the nodes are those of a pair
-module _ (nodes : List Node) (name : List ℕ) (count : ℕ) (below : List Node) (m : ℕ) (above : List Node) (is : nodes ≡ node.List count ∷ below ++ node.Class name m ∷ above) (given : behind below count ≡ Some []) where
+module _ (nodes : List Node) (name : List ℕ) (count : ℕ) (below : List Node) (m : ℕ) (above : List Node) (is : nodes ≡ node.List count ∷ below ++ node.Class name m ∷ above) (given : following below count ≡ Some []) where
   fits-as : (lower upper : BareTys) → BecomesPair nodes lower upper → IsPairFor nodes lower upper
   fits-as lower upper (head, values, terms, e) =
       let n = count_types lower in
@@ -52,7 +52,7 @@ module _ (nodes : List Node) (name : List ℕ) (count : ℕ) (below : List Node)
       ap (λ l. node.List count ∷ l) (sym (substitute-append values below last)) ∙ ap (substitute values) (sym is) ∙ e in
       let counts : count ≡ n = list-equal count n (cons-head (node.List count) (node.List n) (substitute values below ++ substitute values last) (spelled_all lower ++ ends) whole) in
       let tails : substitute values below ++ substitute values last ≡ spelled_all lower ++ ends = cons-tail (node.List count) (node.List n) (substitute values below ++ substitute values last) (spelled_all lower ++ ends) whole in
-      let own : behind (substitute values below) n ≡ Some [] = ap (behind (substitute values below)) (sym counts) ∙ behind-substitute values terms below [] count given in
+      let own : following (substitute values below) n ≡ Some [] = ap (following (substitute values below)) (sym counts) ∙ following-substitute values terms below [] count given in
       let parts = rest-equal (substitute values below) (spelled_all lower) (substitute values last) ends n own (all-terms lower) tails in
       let arities : m ≡ k = class-equal name head m k (cons-head (node.Class name m) (node.Class head k) (substitute values above) (spelled_all upper) parts.1) in
       let uppers : substitute values above ≡ spelled_all upper = cons-tail (node.Class name m) (node.Class head k) (substitute values above) (spelled_all upper) parts.1 in

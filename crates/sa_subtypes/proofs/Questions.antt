@@ -6,16 +6,16 @@ use Rattle.std.specs.Option.{option_map, option_or}
 use Rattle.std.proofs.lemmas.Bool.{eqb-true, eq-eqb}
 use Rattle.std.proofs.lemmas.List.{append_cancel_left, append-nil}
 use Rattle.std.proofs.lemmas.Option.{none-some}
-use Rattle.sa_tree.specs.TypeEquality.{same_type_Decides}
-use Rattle.sa_tree.specs.Types.{BareTy, BareTys, bare_tys}
-use Rattle.sa_subtypes_pairs.specs.declared.pattern.Node.{Node}
-use Rattle.sa_subtypes_pairs.specs.declared.pattern.Node.TheVariants as node
-use Rattle.sa_subtypes.specs.Questions.{term_of, IsPairFor, Seen, found, past, unlike, walk_all, sought, seeking, item_seen, first_in, is_number, counts_up, value_below, value_from, same_item, stands, passed_if, comparing, is_past, is_end, both_fit, class_fits, upper_fits, first_fits, pair_fits}
-use Rattle.sa_subtypes_pairs.specs.Spelled.{count_types, spelled, spelled_all, Item, a_type, a_mode}
-use Rattle.sa_subtypes_pairs.specs.Terms.{IsTerm, Values, AreTerms, substitute, is_variable, comes}
+use Rattle.sa_ast.specs.TypeEquality.{same_type_Decides}
+use Rattle.sa_ast.specs.Types.{BareTy, BareTys, bare_tys}
+use Rattle.sa_unify.specs.declared.pattern.Node.{Node}
+use Rattle.sa_unify.specs.declared.pattern.Node.TheVariants as node
+use Rattle.sa_subtypes.specs.Questions.{term_of, IsPairFor, Seen, found, past, unlike, walk_all, sought, seeking, item_seen, first_in, is_number, counts_up, value_below, value_from, same_item, occurs, passed_if, comparing, is_past, is_end, both_fit, class_fits, upper_fits, first_fits, pair_fits}
+use Rattle.sa_unify.specs.Spelled.{count_types, spelled, spelled_all, Item, a_type, a_mode}
+use Rattle.sa_unify.specs.Terms.{IsTerm, Values, AreTerms, substitute, is_variable, comes}
 use Rattle.sa_subtypes.proofs.TypeTerms.{cons-head, item_head, item_inside, term-head, spelled-term, item-term, item-equal, substitute-empty, not_empty}
 use Rattle.sa_subtypes.proofs.Walks.{past-equal, unlike-past, same_mode-self, same_mode-true, head-unbound, IsCut, cut-all, Outcome, outcome-all}
-use Rattle.sa_subtypes_pairs.proofs.Terms.{substitute-same, terms-equal}
+use Rattle.sa_unify.proofs.Terms.{substitute-same, terms-equal}
 
 -- ---- what stands for a variable as a term
 
@@ -56,7 +56,7 @@ comparing-past value number i rest next h = go (value number) h
     test j true e k = (sym (past-equal rest next k), ap term_of (same_item-true j i e))
     test j false e k = absurd (unlike-past next k)
 
-    go : (o : Option Item) → passed_if (stands o i) rest ≡ past next → (next ≡ rest) × (item_terms number o ≡ term_of i)
+    go : (o : Option Item) → passed_if (occurs o i) rest ≡ past next → (next ≡ rest) × (item_terms number o ≡ term_of i)
     go None k = absurd (unlike-past next k)
     go (Some j) k = test j (same_item j i) refl k
 
@@ -75,7 +75,7 @@ comparing-passes : (value : ℕ → Option Item) (number : ℕ) (i : Item) (rest
 unfolding comparing
 comparing-passes value number i rest h = go (value number) h
   where
-    go : (o : Option Item) → item_terms number o ≡ term_of i → ((passed_if (stands o i) rest ≡ past rest) × Unit {0}) ⊎ ((j : Item) × (passed_if (stands o i) rest ≡ found j) × ⊥)
+    go : (o : Option Item) → item_terms number o ≡ term_of i → ((passed_if (occurs o i) rest ≡ past rest) × Unit {0}) ⊎ ((j : Item) × (passed_if (occurs o i) rest ≡ found j) × ⊥)
     go None k = absurd (no_variable number i k)
     go (Some j) k = inl (ap (λ x. passed_if (same_item x i) rest) (item-equal j i k) ∙ ap (λ b. passed_if b rest) (same_item-self i), tt)
 

@@ -1,19 +1,19 @@
 -- The edges of the tables are the edges of the relation: one or more edges of the tables lead from a class at the terms of its arguments to another exactly where edges of the relation lead from type to type.
 use Rattle.std.proofs.Common.{◌≡◌, ◌⊎◌, inl, inr, ℕ, List, Some, slice_get, refl, sym, ap, subst, ◌∙◌}
-use Rattle.sa_tree.specs.declared.class.Class.{Class}
-use Rattle.sa_tree.specs.declared.class.Flat.{Flat}
-use Rattle.sa_tree.specs.Types.{BareTy, Named, BareTys}
-use Rattle.sa_subtypes_pairs.specs.declared.declared.Edge.{Edge}
-use Rattle.sa_subtypes_pairs.specs.Spelled.{count_types, spelled_all, read_types}
-use Rattle.sa_subtypes_pairs.specs.Edges.{EdgeNodes}
-use Rattle.sa_subtypes_lineage.specs.Kept.{IsEdgeOf}
-use Rattle.sa_subtypes_lineage.specs.Lineages.{Tables, At, class_at, pair_of, Step, Leads, by_edge, by_edges}
+use Rattle.sa_ast.specs.declared.class.Class.{Class}
+use Rattle.sa_ast.specs.declared.class.FlatClass.{FlatClass}
+use Rattle.sa_ast.specs.Types.{BareTy, Named, BareTys}
+use Rattle.sa_unify.specs.declared.declared.Edge.{Edge}
+use Rattle.sa_unify.specs.Spelled.{count_types, spelled_all, read_types}
+use Rattle.sa_unify.specs.DeclaredEdges.{EdgeNodes}
+use Rattle.sa_hierarchy.specs.Kept.{IsEdgeOf}
+use Rattle.sa_hierarchy.specs.Hierarchies.{Tables, At, class_at, pair_of, Step, Leads, by_edge, by_edges}
 use Rattle.sa_subtypes.specs.Subtypes.{IsEdge}
 use Rattle.sa_subtypes.proofs.Chains.{Chain, here, step}
 use Rattle.sa_subtypes.proofs.Declarations.{number_of, all_edges}
 use Rattle.sa_subtypes.proofs.EdgeInstances.{Declares, declares-edge, edge-declares}
 use Rattle.sa_subtypes.proofs.Members.{Among}
-use Rattle.sa_subtypes_pairs.proofs.Spelling.{spelled_all-terms, read-spelled_all}
+use Rattle.sa_unify.proofs.Spelling.{spelled_all-terms, read-spelled_all}
 
 same_number : (m n : ℕ) → Some m ≡ Some n → m ≡ n
 same_number m n e = cc
@@ -24,7 +24,7 @@ named_names name other ts us e = cc
 named_types : (name other : List ℕ) (ts us : BareTys) → Named name ts ≡ Named other us → ts ≡ us
 named_types name other ts us e = cc
 
-module _ (flat : Flat) (w : Tables) where
+module _ (flat : FlatClass) (w : Tables) where
   -- the edges of the tables are those that the classes declare
   pub record AreEdges : Type 0 where
     pub listed : (number : ℕ) (edge : Edge) → slice_get w.edges number ≡ Some edge → (e : EdgeNodes) × Among e (all_edges flat) × IsEdgeOf w edge e

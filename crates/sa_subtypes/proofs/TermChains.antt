@@ -1,20 +1,20 @@
 -- Chains of declared edges between terms. Edges of the relation lead from one type to another where declared edges lead from the term of the one to that of the other: whatever the terms between are, they are read as types.
 use Rattle.std.proofs.Common.{◌≡◌, ℕ, List, [], ◌∷◌, ◌++◌, Some, slice_get, sym, ap, subst, ◌∙◌}
-use Rattle.sa_tree.specs.declared.class.Class.{Class}
-use Rattle.sa_tree.specs.declared.class.Flat.{Flat}
-use Rattle.sa_tree.specs.Types.{BareTy, Named}
-use Rattle.sa_subtypes_pairs.specs.declared.pattern.Node.{Node}
-use Rattle.sa_subtypes_pairs.specs.declared.pattern.Node.TheVariants as node
-use Rattle.sa_subtypes_pairs.specs.Terms.{behind, Values, AreTerms, substitute}
-use Rattle.sa_subtypes_pairs.specs.Spelled.{count_types, spelled, spelled_all, type_of, first_item, read_type, read_types}
-use Rattle.sa_subtypes_pairs.specs.Edges.{EdgeNodes}
+use Rattle.sa_ast.specs.declared.class.Class.{Class}
+use Rattle.sa_ast.specs.declared.class.FlatClass.{FlatClass}
+use Rattle.sa_ast.specs.Types.{BareTy, Named}
+use Rattle.sa_unify.specs.declared.pattern.Node.{Node}
+use Rattle.sa_unify.specs.declared.pattern.Node.TheVariants as node
+use Rattle.sa_unify.specs.Terms.{following, Values, AreTerms, substitute}
+use Rattle.sa_unify.specs.Spelled.{count_types, spelled, spelled_all, type_of, first_item, read_type, read_types}
+use Rattle.sa_unify.specs.DeclaredEdges.{EdgeNodes}
 use Rattle.sa_subtypes.specs.Subtypes.{IsEdge}
 use Rattle.sa_subtypes.proofs.Chains.{IsNamed, Chain, here, step}
 use Rattle.sa_subtypes.proofs.Declarations.{all_edges, edge-declared, declared-edge}
 use Rattle.sa_subtypes.proofs.Members.{Among}
-use Rattle.sa_subtypes_pairs.proofs.Owns.{spelled-Named}
-use Rattle.sa_subtypes_pairs.proofs.Readings.{read-node}
-use Rattle.sa_subtypes_pairs.proofs.Spelling.{spelled_all-terms, read-spelled}
+use Rattle.sa_unify.proofs.Owns.{spelled-Named}
+use Rattle.sa_unify.proofs.Readings.{read-node}
+use Rattle.sa_unify.proofs.Spelling.{spelled_all-terms, read-spelled}
 
 -- edges lead from one term to another, over none or more terms between them
 pub data TermChain (Edge : List Node → List Node → Type 0) : List Node → List Node → Type 0 where
@@ -24,7 +24,7 @@ pub data TermChain (Edge : List Node → List Node → Type 0) : List Node → L
 same_class : (d c : Class) → Some d ≡ Some c → d ≡ c
 same_class d c e = cc
 
-module _ (flat : Flat) where
+module _ (flat : FlatClass) where
   -- the nodes of a declared edge at terms, for a lower term of the edge's lower class
   pub record IsTermEdge (w x : List Node) : Type 0 where
     pub edge : EdgeNodes
@@ -33,7 +33,7 @@ module _ (flat : Flat) where
     pub lower_there : slice_get flat.classes edge.0 ≡ Some lower
     pub count : ℕ
     pub args : List Node
-    pub args_terms : behind args count ≡ Some []
+    pub args_terms : following args count ≡ Some []
     pub from : w ≡ node.Class lower.name.name count ∷ args
     pub values : Values
     pub terms : AreTerms values

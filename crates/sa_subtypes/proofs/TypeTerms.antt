@@ -3,14 +3,14 @@ use Rattle.std.proofs.Common.{◌≡◌, ℕ, zero, suc, ◌+◌, List, [], ◌�
 use Rattle.std.specs.Prelude.{◌⊎◌}
 use Rattle.std.proofs.lemmas.List.{append_cancel_left, append-nil}
 use Rattle.std.proofs.lemmas.Option.{none-some}
-use Rattle.sa_tree.specs.declared.ty.Mode.{Mode}
-use Rattle.sa_tree.specs.Types.{BareTy, Named, Same, Rout, Iter, BareTys, no_types, type, BareArgs, no_args, arg, BareResult, no_result, gives}
-use Rattle.sa_subtypes_pairs.specs.declared.pattern.Node.{Node}
-use Rattle.sa_subtypes_pairs.specs.declared.pattern.Node.TheVariants as node
+use Rattle.sa_ast.specs.declared.ty.Mode.{Mode}
+use Rattle.sa_ast.specs.Types.{BareTy, Named, Same, Rout, Iter, BareTys, no_types, type, BareArgs, no_args, arg, BareResult, no_result, gives}
+use Rattle.sa_unify.specs.declared.pattern.Node.{Node}
+use Rattle.sa_unify.specs.declared.pattern.Node.TheVariants as node
 use Rattle.sa_subtypes.specs.Questions.{spelled_args, spelled_result, term_of}
-use Rattle.sa_subtypes_pairs.specs.Spelled.{count_types, count_args, count_result, spelled, spelled_all, Item, a_type, a_mode}
-use Rattle.sa_subtypes_pairs.specs.Terms.{held, behind, IsTerm, Values, AreTerms, value_of, substitute}
-use Rattle.sa_subtypes_pairs.proofs.Terms.{behind_none, behind-append, behind-split, terms-equal}
+use Rattle.sa_unify.specs.Spelled.{count_types, count_args, count_result, spelled, spelled_all, Item, a_type, a_mode}
+use Rattle.sa_unify.specs.Terms.{held, following, IsTerm, Values, AreTerms, value_of, substitute}
+use Rattle.sa_unify.proofs.Terms.{behind_none, following-append, following-split, terms-equal}
 
 -- ---- lists of nodes
 
@@ -62,31 +62,31 @@ term-head (a_mode m) = refl
 
 -- ---- each is one term
 
-term_from : (t : BareTy) → behind (inside t) (held (head_of t)) ≡ Some [] → IsTerm (spelled t)
+term_from : (t : BareTy) → following (inside t) (held (head_of t)) ≡ Some [] → IsTerm (spelled t)
 term_from t h =
     let e : held (head_of t) + 0 ≡ held (head_of t) = omega arith in
-    ap (λ l. behind l 1) (spelled-head t) ∙ ap (behind (inside t)) e ∙ h
+    ap (λ l. following l 1) (spelled-head t) ∙ ap (following (inside t)) e ∙ h
 
 mutual
-  inside-terms : (t : BareTy) → behind (inside t) (held (head_of t)) ≡ Some []
+  inside-terms : (t : BareTy) → following (inside t) (held (head_of t)) ≡ Some []
   inside-terms (Named name args) = all-terms args
   inside-terms Same = refl
-  inside-terms (Rout args of) = behind-append (spelled_args args) (spelled_result of) (count_args args) (count_result of) (args-terms args) ∙ result-terms of
-  inside-terms (Iter args of) = behind-append (spelled_args args) (spelled_result of) (count_args args) (count_result of) (args-terms args) ∙ result-terms of
+  inside-terms (Rout args of) = following-append (spelled_args args) (spelled_result of) (count_args args) (count_result of) (args-terms args) ∙ result-terms of
+  inside-terms (Iter args of) = following-append (spelled_args args) (spelled_result of) (count_args args) (count_result of) (args-terms args) ∙ result-terms of
 
-  pub all-terms : (ts : BareTys) → behind (spelled_all ts) (count_types ts) ≡ Some []
+  pub all-terms : (ts : BareTys) → following (spelled_all ts) (count_types ts) ≡ Some []
   all-terms no_types = refl
   all-terms (type t more) =
       let e : suc (count_types more) ≡ 1 + count_types more = omega arith in
-      ap (behind (spelled t ++ spelled_all more)) e ∙ behind-append (spelled t) (spelled_all more) 1 (count_types more) (term_from t (inside-terms t)) ∙ all-terms more
+      ap (following (spelled t ++ spelled_all more)) e ∙ following-append (spelled t) (spelled_all more) 1 (count_types more) (term_from t (inside-terms t)) ∙ all-terms more
 
-  pub args-terms : (xs : BareArgs) → behind (spelled_args xs) (count_args xs) ≡ Some []
+  pub args-terms : (xs : BareArgs) → following (spelled_args xs) (count_args xs) ≡ Some []
   args-terms no_args = refl
   args-terms (arg m t more) =
       let e : 0 + suc (count_args more) ≡ 1 + count_args more = omega arith in
-      ap (behind (spelled t ++ spelled_args more)) e ∙ behind-append (spelled t) (spelled_args more) 1 (count_args more) (term_from t (inside-terms t)) ∙ args-terms more
+      ap (following (spelled t ++ spelled_args more)) e ∙ following-append (spelled t) (spelled_args more) 1 (count_args more) (term_from t (inside-terms t)) ∙ args-terms more
 
-  pub result-terms : (r : BareResult) → behind (spelled_result r) (count_result r) ≡ Some []
+  pub result-terms : (r : BareResult) → following (spelled_result r) (count_result r) ≡ Some []
   result-terms no_result = refl
   result-terms (gives t) = term_from t (inside-terms t)
 
@@ -179,13 +179,13 @@ item-equal (a_mode m) (a_mode n) e = ap a_mode (passed-equal m n (cons-head (nod
 -- ---- terms substituted for variables that are those of given terms
 
 -- the nodes behind so many terms are those behind some of them and the others
-behind-parts : (l r : List Node) (j k : ℕ) → behind l (j + k) ≡ Some r → (m : List Node) × (behind l j ≡ Some m) × (behind m k ≡ Some r)
-behind-parts l r zero k h = let e : zero + k ≡ k = omega arith in (l, behind_none l, ap (behind l) (sym e) ∙ h)
-behind-parts [] r (suc j) k h = let e : suc j + k ≡ suc (j + k) = omega arith in absurd (none-some r (ap (behind []) (sym e) ∙ h))
-behind-parts (a ∷ l) r (suc j) k h =
+following-parts : (l r : List Node) (j k : ℕ) → following l (j + k) ≡ Some r → (m : List Node) × (following l j ≡ Some m) × (following m k ≡ Some r)
+following-parts l r zero k h = let e : zero + k ≡ k = omega arith in (l, behind_none l, ap (following l) (sym e) ∙ h)
+following-parts [] r (suc j) k h = let e : suc j + k ≡ suc (j + k) = omega arith in absurd (none-some r (ap (following []) (sym e) ∙ h))
+following-parts (a ∷ l) r (suc j) k h =
     let e : suc j + k ≡ suc (j + k) = omega arith in
     let f : held a + (j + k) ≡ (held a + j) + k = omega arith in
-    behind-parts l r (held a + j) k (ap (behind l) (sym f) ∙ ap (behind (a ∷ l)) (sym e) ∙ h)
+    following-parts l r (held a + j) k (ap (following l) (sym f) ∙ ap (following (a ∷ l)) (sym e) ∙ h)
 
 -- what is substituted for a node is something
 no_value : (values : Values) → AreTerms values → (a : Node) (l : List Node) → value_of values a ++ l ≡ [] → ⊥
@@ -217,15 +217,15 @@ split-variable values number w term t u same s =
     (node.Variable number ∷ s.0, s.1, ap (λ l. node.Variable number ∷ l) s.2, ap (λ l. l ++ substitute values s.0) same ∙ ap (λ l. term ++ l) s.3, s.4)
 
 module _ (values : Values) (terms : AreTerms values) where
-  pub substitute-split : (w t u : List Node) (k : ℕ) → behind t k ≡ Some [] → substitute values w ≡ t ++ u → IsSplit values w t u
+  pub substitute-split : (w t u : List Node) (k : ℕ) → following t k ≡ Some [] → substitute values w ≡ t ++ u → IsSplit values w t u
   substitute-split w [] u zero h e = ([], w, refl, refl, e)
   substitute-split w [] u (suc k) h e = absurd (none-some [] h)
   substitute-split w (b ∷ t) u zero h e = absurd (some_cons b t h)
   substitute-split [] (b ∷ t) u (suc k) h e = absurd (no_cons b (t ++ u) (sym e))
   substitute-split (node.Variable number ∷ w) (b ∷ t) u (suc k) h e =
       let sum : 1 + k ≡ suc k = omega arith in
-      let parts = behind-parts (b ∷ t) [] 1 k (ap (behind (b ∷ t)) sum ∙ h) in
-      let first = behind-split (b ∷ t) parts.0 1 parts.1 in
+      let parts = following-parts (b ∷ t) [] 1 k (ap (following (b ∷ t)) sum ∙ h) in
+      let first = following-split (b ∷ t) parts.0 1 parts.1 in
       let whole : values number ++ substitute values w ≡ first.0 ++ (parts.0 ++ u) = e ∙ ap (λ l. l ++ u) first.1 ∙ append_assoc first.0 parts.0 u in
       let same : values number ≡ first.0 = terms-equal (values number) first.0 (substitute values w) (parts.0 ++ u) (terms number) first.2 whole in
       let rest : substitute values w ≡ parts.0 ++ u = append_cancel_left first.0 (substitute values w) (parts.0 ++ u) (ap (λ l. l ++ substitute values w) (sym same) ∙ whole) in

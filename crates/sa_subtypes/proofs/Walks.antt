@@ -5,17 +5,17 @@ use Rattle.std.specs.Cmp.{first_so, second_so}
 use Rattle.std.specs.Cmp.Lexicographic.{pointwise, bytes_decides}
 use Rattle.std.proofs.lemmas.Bool.{eqb-true, eq-eqb}
 use Rattle.std.proofs.lemmas.List.{append-nil}
-use Rattle.sa_tree.specs.declared.ty.Mode.{Mode}
-use Rattle.sa_tree.specs.declared.ty.Mode.TheVariants.{In, Out, Inout, Once}
-use Rattle.sa_tree.specs.TypeEquality.{same_mode}
-use Rattle.sa_tree.specs.Types.{BareTy, Named, Same, Rout, Iter, BareTys, no_types, type, BareArgs, no_args, arg, BareResult, no_result, gives}
-use Rattle.sa_subtypes_pairs.specs.declared.pattern.Node.{Node}
-use Rattle.sa_subtypes_pairs.specs.declared.pattern.Node.TheVariants as node
+use Rattle.sa_ast.specs.declared.ty.Mode.{Mode}
+use Rattle.sa_ast.specs.declared.ty.Mode.TheVariants.{In, Out, Inout, Once}
+use Rattle.sa_ast.specs.TypeEquality.{same_mode}
+use Rattle.sa_ast.specs.Types.{BareTy, Named, Same, Rout, Iter, BareTys, no_types, type, BareArgs, no_args, arg, BareResult, no_result, gives}
+use Rattle.sa_unify.specs.declared.pattern.Node.{Node}
+use Rattle.sa_unify.specs.declared.pattern.Node.TheVariants as node
 use Rattle.sa_subtypes.specs.Questions.{spelled_args, spelled_result, term_of, is_class, is_list, is_routine, is_iter, is_passed, is_head, Met, a_variable, a_head, another, headed, meets, Seen, found, past, unlike, seen_then, met_then, walk_mode, walk_inside, walk_all, walk_args, walk_result}
-use Rattle.sa_subtypes_pairs.specs.Spelled.{count_types, count_args, count_result, spelled, spelled_all, Item, a_type, a_mode}
-use Rattle.sa_subtypes_pairs.specs.Terms.{behind, Values, AreTerms, value_of, substitute, is_variable, comes}
+use Rattle.sa_unify.specs.Spelled.{count_types, count_args, count_result, spelled, spelled_all, Item, a_type, a_mode}
+use Rattle.sa_unify.specs.Terms.{following, Values, AreTerms, value_of, substitute, is_variable, comes}
 use Rattle.sa_subtypes.proofs.TypeTerms.{item_head, item_inside, term-head, inside, spelled-term, args-terms, substitute-empty, substitute-split, term-cases}
-use Rattle.sa_subtypes_pairs.proofs.Terms.{substitute-append}
+use Rattle.sa_unify.proofs.Terms.{substitute-append}
 
 -- ---- what is seen
 
@@ -231,7 +231,7 @@ module _ (visit : ℕ → Item → List Node → Seen) (values : Values) (terms 
   outcome-empty : (first rest : List Node) → substitute values first ≡ [] → Outcome Past Good first rest (past (first ++ rest))
   outcome-empty first rest e = subst (λ l. Outcome Past Good l rest (past (l ++ rest))) (sym (substitute-empty values terms first e)) (outcome-nothing Past Good rest)
 
-  outcome-parts : (one other : List Node) (n : ℕ) → behind one n ≡ Some [] → (start next : List Node → Seen) → ((first rest : List Node) → substitute values first ≡ one → Outcome Past Good first rest (start (first ++ rest))) → ((first rest : List Node) → substitute values first ≡ other → Outcome Past Good first rest (next (first ++ rest))) → (first rest : List Node) → substitute values first ≡ one ++ other → Outcome Past Good first rest (seen_then (start (first ++ rest)) next)
+  outcome-parts : (one other : List Node) (n : ℕ) → following one n ≡ Some [] → (start next : List Node → Seen) → ((first rest : List Node) → substitute values first ≡ one → Outcome Past Good first rest (start (first ++ rest))) → ((first rest : List Node) → substitute values first ≡ other → Outcome Past Good first rest (next (first ++ rest))) → (first rest : List Node) → substitute values first ≡ one ++ other → Outcome Past Good first rest (seen_then (start (first ++ rest)) next)
   outcome-parts one other n h start next f g first rest e =
       let s = substitute-split values terms first one other n h e in
       subst (λ l. Outcome Past Good l rest (seen_then (start (l ++ rest)) next)) (sym s.2)

@@ -1,9 +1,9 @@
 -- Whether a type is below another, where it is known what is above every type and what declared edges lead to: the rule for bound types.
 use Rattle.std.specs.Prelude.{Bool, true, false, cond, not, ◌&&◌, ◌||◌}
-use Rattle.sa_tree.specs.declared.ty.Mode.{Mode}
-use Rattle.sa_tree.specs.declared.ty.Mode.TheVariants.{In, Out, Inout, Once}
-use Rattle.sa_tree.specs.TypeEquality.{same_mode, same_type}
-use Rattle.sa_tree.specs.Types.{BareTy, Rout, Iter, BareArgs, no_args, arg, BareResult, no_result, gives}
+use Rattle.sa_ast.specs.declared.ty.Mode.{Mode}
+use Rattle.sa_ast.specs.declared.ty.Mode.TheVariants.{In, Out, Inout, Once}
+use Rattle.sa_ast.specs.TypeEquality.{same_mode, same_type}
+use Rattle.sa_ast.specs.Types.{BareTy, Rout, Iter, BareArgs, no_args, arg, BareResult, no_result, gives}
 
 -- by the mode of an argument: the types are the same, the one goes as the bound types go, or it goes the other way round
 abbrev pub goes_by : Mode → Bool → Bool → Bool → Bool
@@ -19,8 +19,8 @@ module _ (tops : BareTy → Bool) (climbs : BareTy → BareTy → Bool) (immutab
   rises s t turned = tops (cond turned s t) || cond turned (climbs t s) (climbs s t)
 
   -- at a place of two bound types: where one is an immutable class, they are the same
-  abbrev pub stands_as : BareTy → BareTy → Bool → Bool
-  stands_as s t otherwise = cond (immutable s || immutable t) (same_type s t) otherwise
+  abbrev pub occurs_as : BareTy → BareTy → Bool → Bool
+  occurs_as s t otherwise = cond (immutable s || immutable t) (same_type s t) otherwise
 
   -- the first type is below the second, or, turned, the second below the first
   unfoldable mutual
@@ -32,15 +32,15 @@ module _ (tops : BareTy → Bool) (climbs : BareTy → BareTy → Bool) (immutab
     pub args_hold : BareArgs → BareArgs → Bool → Bool
     args_hold no_args no_args turned = true
     args_hold (arg m s xs) (arg n t ys) turned =
-        same_mode m n && stands_as s t (goes_by m (same_type s t) (holds s t turned) (holds s t (not turned))) && args_hold xs ys turned
+        same_mode m n && occurs_as s t (goes_by m (same_type s t) (holds s t turned) (holds s t (not turned))) && args_hold xs ys turned
     args_hold _ _ turned = false
 
     pub result_holds : BareResult → BareResult → Bool → Bool
     result_holds no_result no_result turned = true
-    result_holds (gives s) (gives t) turned = stands_as s t (holds s t turned)
+    result_holds (gives s) (gives t) turned = occurs_as s t (holds s t turned)
     result_holds _ _ turned = false
 
   -- the same of one argument
   unfoldable pub arg_holds : Mode × BareTy → Mode × BareTy → Bool → Bool
   arg_holds a b turned =
-      same_mode a.0 b.0 && stands_as a.1 b.1 (goes_by a.0 (same_type a.1 b.1) (holds a.1 b.1 turned) (holds a.1 b.1 (not turned)))
+      same_mode a.0 b.0 && occurs_as a.1 b.1 (goes_by a.0 (same_type a.1 b.1) (holds a.1 b.1 turned) (holds a.1 b.1 (not turned)))

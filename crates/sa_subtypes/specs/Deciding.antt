@@ -1,11 +1,11 @@
 -- What the tables answer: whether declared edges lead from a class with its arguments to another.
 use Rattle.std.specs.Prelude.{ℕ, zero, suc, ◌-◌, ◌||◌, ◌&&◌, not, Bool, false, nat_eq, List, [], ◌∷◌, length, Option, None, Some, slice_get}
-use Rattle.sa_tree.specs.Types.{BareTy, BareTys, no_types, type, bare_tys}
-use Rattle.sa_tree.specs.TypeEquality.{same_types}
-use Rattle.sa_subtypes_lineage.specs.declared.lineage.Above.{Above}
-use Rattle.sa_subtypes_lineage.specs.declared.links.Link.{Link}
-use Rattle.sa_subtypes_lineage.specs.Lineages.{Tables}
-use Rattle.sa_subtypes_lineage.specs.Lines.{in_line}
+use Rattle.sa_ast.specs.Types.{BareTy, BareTys, no_types, type, bare_tys}
+use Rattle.sa_ast.specs.TypeEquality.{same_types}
+use Rattle.sa_hierarchy.specs.declared.class_hierarchy.Ancestor.{Ancestor}
+use Rattle.sa_hierarchy.specs.declared.links.ParentLink.{ParentLink}
+use Rattle.sa_hierarchy.specs.Hierarchies.{Tables}
+use Rattle.sa_hierarchy.specs.Lines.{in_line}
 use Rattle.sa_subtypes.specs.Questions.{pair_fits}
 
 -- ---- the lists
@@ -25,13 +25,13 @@ module _ (w : Tables) where
       && in_line w.links lower upper
 
   -- whether a pair leads from a class with these arguments to a class, or to one below it in its tree
-  unfoldable pub is_by : Above → List BareTy → ℕ → List BareTy → Bool
+  unfoldable pub is_by : Ancestor → List BareTy → ℕ → List BareTy → Bool
   is_by entry args upper above =
       (nat_eq entry.upper upper || nat_eq (length above) (w.arity upper))
       && in_line w.links entry.upper upper
       && pair_fits args above (w.nodes entry.pair)
 
-  abbrev pub entry_by : ℕ → List BareTy → ℕ → List BareTy → Option Above → Bool
+  abbrev pub entry_by : ℕ → List BareTy → ℕ → List BareTy → Option Ancestor → Bool
   entry_by root args upper above None = false
   entry_by root args upper above (Some entry) = nat_eq entry.class root && is_by entry args upper above
 
@@ -48,7 +48,7 @@ module _ (w : Tables) where
   list_by root args upper above = range_by root args upper above (slice_get w.lists root)
 
   -- whether a pair of the list of the class's root does, where the class is the root or has as many arguments as parameters
-  abbrev pub link_by : ℕ → List BareTy → ℕ → List BareTy → Option Link → Bool
+  abbrev pub link_by : ℕ → List BareTy → ℕ → List BareTy → Option ParentLink → Bool
   link_by lower args upper above None = false
   link_by lower args upper above (Some link) =
       (nat_eq link.root lower || nat_eq (length args) (w.arity lower)) && list_by link.root args upper above

@@ -4,22 +4,22 @@ use Rattle.std.specs.Prelude.{◌≡◌, ℕ, zero, suc, ◌+◌, Bool, true, fa
 use Rattle.std.specs.Prelude.{[], ◌∷◌, ◌++◌, length, map, drop, slice_get, Option, Some, None}
 use Rattle.std.specs.Option.{option_map, option_or}
 use Rattle.std.specs.Cmp.Lexicographic.{pointwise}
-use Rattle.sa_tree.specs.declared.ty.Mode.{Mode}
-use Rattle.sa_tree.specs.TypeEquality.{same_mode, same_type}
-use Rattle.sa_tree.specs.Types.{BareTy, Named, Same, Rout, Iter, BareTys, no_types, type, BareArgs}
-use Rattle.sa_tree.specs.Types.{no_args, arg, BareResult, no_result, gives, bare, bare_tys}
-use Rattle.sa_subtypes_pairs.specs.declared.pattern.Node.{Node}
-use Rattle.sa_subtypes_pairs.specs.declared.pattern.Node.TheVariants as node
-use Rattle.sa_subtypes.specs.declared.beside.Beside.{Beside}
-use Rattle.sa_subtypes.specs.declared.beside.Beside.TheVariants as beside
-use Rattle.sa_subtypes.specs.declared.seek.Found.{Found}
-use Rattle.sa_subtypes.specs.declared.seek.Found.TheVariants as finding
-use Rattle.sa_subtypes.specs.declared.part.Part.{Part}
-use Rattle.sa_subtypes.specs.declared.part.Part.TheVariants as part
+use Rattle.sa_ast.specs.declared.ty.Mode.{Mode}
+use Rattle.sa_ast.specs.TypeEquality.{same_mode, same_type}
+use Rattle.sa_ast.specs.Types.{BareTy, Named, Same, Rout, Iter, BareTys, no_types, type, BareArgs}
+use Rattle.sa_ast.specs.Types.{no_args, arg, BareResult, no_result, gives, bare, bare_tys}
+use Rattle.sa_unify.specs.declared.pattern.Node.{Node}
+use Rattle.sa_unify.specs.declared.pattern.Node.TheVariants as node
+use Rattle.sa_subtypes.specs.declared.node_match.NodeMatch.{NodeMatch}
+use Rattle.sa_subtypes.specs.declared.node_match.NodeMatch.TheVariants as beside
+use Rattle.sa_subtypes.specs.declared.seek.SearchResult.{SearchResult}
+use Rattle.sa_subtypes.specs.declared.seek.SearchResult.TheVariants as finding
+use Rattle.sa_subtypes.specs.declared.part.TypePart.{TypePart}
+use Rattle.sa_subtypes.specs.declared.part.TypePart.TheVariants as part
 use Rattle.sa_subtypes.specs.declared.question.Question.{Question}
-use Rattle.sa_subtypes_pairs.specs.Spelled.{count_types, count_args, count_result, written_args, written_result}
-use Rattle.sa_subtypes_pairs.specs.Spelled.{nowhere, same_nodes, spelled, spelled_all, Item, a_type, a_mode}
-use Rattle.sa_subtypes_pairs.specs.Terms.{Values, AreTerms, substitute}
+use Rattle.sa_unify.specs.Spelled.{count_types, count_args, count_result, written_args, written_result}
+use Rattle.sa_unify.specs.Spelled.{nowhere, same_nodes, spelled, spelled_all, Item, a_type, a_mode}
+use Rattle.sa_unify.specs.Terms.{Values, AreTerms, substitute}
 
 -- ---- the terms of types
 
@@ -202,9 +202,9 @@ same_item (a_type t) (a_mode m) = false
 same_item (a_mode m) (a_type t) = false
 same_item (a_mode m) (a_mode n) = same_mode m n
 
-abbrev pub stands : Option Item → Item → Bool
-stands None i = false
-stands (Some own) i = same_item own i
+abbrev pub occurs : Option Item → Item → Bool
+occurs None i = false
+occurs (Some own) i = same_item own i
 
 abbrev pub passed_if : Bool → List Node → Seen
 passed_if true rest = past rest
@@ -212,7 +212,7 @@ passed_if false rest = unlike
 
 -- goes past a variable where the item is what stands for it
 unfoldable pub comparing : (ℕ → Option Item) → ℕ → Item → List Node → Seen
-comparing value number i rest = passed_if (stands (value number) i) rest
+comparing value number i rest = passed_if (occurs (value number) i) rest
 
 abbrev pub is_past : Seen → Bool
 is_past (past rest) = true
@@ -253,16 +253,16 @@ pair_fits lower upper (a ∷ nodes) = first_fits lower upper nodes a
 
 -- ---- what the code finds
 
-abbrev pub item_of : Part → Item
+abbrev pub item_of : TypePart → Item
 item_of (part.Typed t) = a_type (bare t.now)
 item_of (part.Passed m) = a_mode m
 
-abbrev pub met : List Node → Beside → Met
+abbrev pub met : List Node → NodeMatch → Met
 met nodes (beside.Variable number next) = a_variable number (drop next nodes)
 met nodes (beside.Head next) = a_head (drop next nodes)
 met nodes beside.Another = another
 
-abbrev pub seen : List Node → Found → Seen
+abbrev pub seen : List Node → SearchResult → Seen
 seen nodes (finding.Here p) = found (item_of p)
 seen nodes (finding.Behind next) = past (drop next nodes)
 seen nodes finding.Nothing = unlike

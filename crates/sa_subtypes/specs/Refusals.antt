@@ -1,25 +1,25 @@
 -- What the classes of a program are refused by for the supertypes that they declare.
 use Rattle.std.specs.Prelude.{◌≡◌, ◌⊎◌, ⊤, ℕ, List, [], Option, Some, Contains, map, slice_get}
 use Rattle.std.specs.Option.{option_map}
-use Rattle.sa_tree.specs.declared.class.Flat.{Flat}
-use Rattle.sa_tree.specs.declared.class.Kind.{Kind}
-use Rattle.sa_tree.specs.declared.pos.Pos.{Pos}
-use Rattle.sa_tree.specs.declared.refusal.FrontFault.{FrontFault}
-use Rattle.sa_tree.specs.declared.refusal.FrontFault.TheVariants.{NoMemory, Refused}
-use Rattle.sa_tree.specs.declared.refusal.Refusal.{Refusal}
-use Rattle.sa_tree.specs.declared.rule.Rule.TheVariants as rule
-use Rattle.sa_subtypes_pairs.specs.Edges.{EdgeNodes, declared_edges}
-use Rattle.sa_subtypes_pairs.specs.Numbers.{class_place}
-use Rattle.sa_subtypes_pairs.specs.Supertypes.{misplaced}
-use Rattle.sa_subtypes_lineage.specs.Cycles.{HasNoCycle, IsFirstCycle}
+use Rattle.sa_ast.specs.declared.class.FlatClass.{FlatClass}
+use Rattle.sa_ast.specs.declared.class.ClassKind.{ClassKind}
+use Rattle.sa_ast.specs.declared.pos.Pos.{Pos}
+use Rattle.sa_ast.specs.declared.refusal.Rejection.{Rejection}
+use Rattle.sa_ast.specs.declared.refusal.Rejection.TheVariants.{NoMemory, Refused}
+use Rattle.sa_ast.specs.declared.refusal.Refusal.{Refusal}
+use Rattle.sa_ast.specs.declared.rule.Rule.TheVariants as rule
+use Rattle.sa_unify.specs.DeclaredEdges.{EdgeNodes, declared_edges}
+use Rattle.sa_unify.specs.Numbers.{class_place}
+use Rattle.sa_unify.specs.Supertypes.{misplaced}
+use Rattle.sa_hierarchy.specs.Cycles.{HasNoCycle, IsFirstCycle}
 use Rattle.sa_subtypes.specs.Subtypes.{class_named}
 
 -- the numbers of the two classes of an edge
 abbrev pub ends_declared : EdgeNodes → ℕ × ℕ
 ends_declared e = (e.0, e.1)
 
-module _ (flat : Flat) where
-  abbrev pub kind_named : List ℕ → Option Kind
+module _ (flat : FlatClass) where
+  abbrev pub kind_named : List ℕ → Option ClassKind
   kind_named name = option_map (λ c. c.kind) (class_named flat.classes name)
 
   -- the positions of the types after `<` that are no abstract classes, in text order
@@ -36,7 +36,7 @@ module _ (flat : Flat) where
     pub rule : refusal.rule ≡ rule.SupertypeNotAbstract
 
   -- where there is none, the first class on a cycle of edges
-  abbrev pub RefusesEdges : FrontFault → Type 0
+  abbrev pub RefusesEdges : Rejection → Type 0
   RefusesEdges (Refused refusal) = RefusesSupertype refusal ⊎ ((misplaced_in ≡ []) × IsFirstCycle ClassEdge flat.classes refusal)
   RefusesEdges NoMemory = ⊤
 

@@ -1,16 +1,16 @@
 //! The subtype relation by the rule for bound types: their arguments and results, place by place.
 
 ghost use Rattle.std.specs.Prelude.{◌≡◌, ◌||◌, cond, not};
-ghost use Rattle.sa_subtypes.specs.Bounds.{arg_holds, args_hold, goes_by, holds, result_holds, rises, stands_as};
-ghost use Rattle.sa_subtypes.specs.Below.{climbs_in, immutable_in, tops_in};
-ghost use Rattle.sa_tree.specs.TypeEquality.{same_mode, same_type};
-ghost use Rattle.sa_tree.specs.Types.{all_bare_args, bare, bare_arg, option_bare};
+ghost use Rattle.sa_subtypes.specs.Bounds.{arg_holds, args_hold, goes_by, holds, result_holds, rises, occurs_as};
+ghost use Rattle.sa_subtypes.specs.SubtypeTest.{climbs_in, immutable_in, tops_in};
+ghost use Rattle.sa_ast.specs.TypeEquality.{same_mode, same_type};
+ghost use Rattle.sa_ast.specs.Types.{all_bare_args, bare, bare_arg, option_bare};
 
-use crate::edges::Edges;
-use sa_tree::{Mode, ModeTy, Ty};
+use crate::edges::SubtypeRelation;
+use sa_ast::{Mode, ModeTy, Ty};
 use sqlite_items::Boxed;
 
-impl Edges {
+impl SubtypeRelation {
     /// Whether the first type is a subtype of the second, or, turned, the second of the first.
     #[tactic(auto, using(crate::proofs::Bounding::holding))]
     #[cycle(holds)]

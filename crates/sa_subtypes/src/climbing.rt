@@ -2,19 +2,19 @@
 
 ghost use Rattle.std.specs.Prelude.{◌≡◌, [], map, nat_eq};
 ghost use Rattle.std.specs.Cmp.Lexicographic.{pointwise};
-ghost use Rattle.sa_subtypes.specs.Below.{class_in, climbs_in, leads_in, tables_in, tops_in};
+ghost use Rattle.sa_subtypes.specs.SubtypeTest.{class_in, climbs_in, leads_in, tables_in, tops_in};
 ghost use Rattle.sa_subtypes.specs.Deciding.{found_between};
 ghost use Rattle.sa_subtypes.specs.Subtypes.{top, top_name};
-ghost use Rattle.sa_tree.specs.TypeEquality.{same_type, same_types};
-ghost use Rattle.sa_tree.specs.Types.{Named, all_bare, bare, no_types};
+ghost use Rattle.sa_ast.specs.TypeEquality.{same_type, same_types};
+ghost use Rattle.sa_ast.specs.Types.{Named, all_bare, bare, no_types};
 
-use crate::edges::Edges;
+use crate::edges::SubtypeRelation;
 use crate::making::TOP;
-use sa_tree::{Name, Ty};
+use sa_ast::{Name, Ty};
 
-impl Edges {
+impl SubtypeRelation {
     /// Whether edges lead from a type to another, or the two are the same.
-    #[tactic(auto, unfolding(crate::specs::Below::climbs_in))]
+    #[tactic(auto, unfolding(crate::specs::SubtypeTest::climbs_in))]
     pub(crate) fn climbs(&self, s: &Ty, t: &Ty) -> bool
         ensures { result ≡ climbs_in self.now (bare s.now) (bare t.now) }
     {

@@ -2,16 +2,16 @@
 
 ghost use Rattle.std.specs.Prelude.{◌≡◌};
 ghost use Rattle.std.proofs.Props.{props};
-ghost use Rattle.sa_subtypes_lineage.specs.Lineages.{AreTried, tables};
-ghost use Rattle.sa_subtypes_pairs.specs.Numbers.{number_in};
+ghost use Rattle.sa_hierarchy.specs.Hierarchies.{AreTried, tables};
+ghost use Rattle.sa_unify.specs.Numbers.{number_in};
 ghost use Rattle.sa_subtypes.specs.Subtypes.{top_name};
 
-use sa_subtypes_lineage::Lineage;
+use sa_hierarchy::Hierarchy;
 
 /// The edges that the classes of a program declare, arranged so that a question takes no memory.
 #[derive(Drop)]
-pub struct Edges {
-    pub(crate) lineage: Lineage,
+pub struct SubtypeRelation {
+    pub(crate) lineage: Hierarchy,
     /// The number of `$OB`, where it is a class.
     pub(crate) top: Option<u32>,
     ghost tried: { ∥ AreTried (tables lineage) ∥₁ },

@@ -1,20 +1,20 @@
 //! Whether declared edges lead from one class with its arguments to another, by the tables.
 
 ghost use Rattle.std.specs.Prelude.{◌≡◌, ◌||◌, ◌-◌, length, map, nat_eq, slice_get};
-ghost use Rattle.sa_subtypes.specs.Below.{tables_in};
+ghost use Rattle.sa_subtypes.specs.SubtypeTest.{tables_in};
 ghost use Rattle.sa_subtypes.specs.Deciding.{found_in, in_list, in_tree, is_by, list_by, place_by, some_place};
-ghost use Rattle.sa_subtypes_lineage.specs.Lines.{in_line};
-ghost use Rattle.sa_subtypes_pairs.specs.Pairs.{nodes_of};
+ghost use Rattle.sa_hierarchy.specs.Lines.{in_line};
+ghost use Rattle.sa_unify.specs.EdgePairs.{nodes_of};
 ghost use Rattle.sa_subtypes.specs.Questions.{pair_fits};
-ghost use Rattle.sa_tree.specs.TypeEquality.{same_types};
-ghost use Rattle.sa_tree.specs.Types.{all_bare, bare};
+ghost use Rattle.sa_ast.specs.TypeEquality.{same_types};
+ghost use Rattle.sa_ast.specs.Types.{all_bare, bare};
 
-use crate::edges::Edges;
+use crate::edges::SubtypeRelation;
 use crate::question::pair_fits;
-use sa_subtypes_lineage::{Above, Link, is_in_line};
-use sa_tree::Ty;
+use sa_ast::Ty;
+use sa_hierarchy::{Ancestor, ParentLink, has_ancestor};
 
-impl Edges {
+impl SubtypeRelation {
     /// Whether edges lead from one class at these arguments to another class at those.
     #[tactic(auto, unfolding(crate::specs::Deciding::found_in))]
     pub(crate) fn leads(&self, lower: u32, args: &[Ty], upper: u32, above: &[Ty]) -> bool
@@ -31,7 +31,7 @@ impl Edges {
         lower != upper
             && self.has_arity(lower, args)
             && are_same(args, above)
-            && self.is_in_line(lower, upper)
+            && self.has_ancestor(lower, upper)
     }
 
     /// Whether there are as many arguments as the class has parameters.
@@ -43,11 +43,11 @@ impl Edges {
     }
 
     /// Whether the second class is the first or above it in its tree.
-    #[tactic(auto, using(sa_subtypes_lineage::proofs::Jumps::trees))]
-    fn is_in_line(&self, lower: u32, upper: u32) -> bool
+    #[tactic(auto, using(sa_hierarchy::proofs::Jumps::trees))]
+    fn has_ancestor(&self, lower: u32, upper: u32) -> bool
         ensures { result ≡ in_line self.now.lineage.links.items lower upper }
     {
-        is_in_line(self.lineage.links.as_slice(), lower, upper)
+        has_ancestor(self.lineage.links.as_slice(), lower, upper)
     }
 
     /// Whether a pair of the list of the class's root leads there. A class that is no root has the list with as many
@@ -68,14 +68,14 @@ impl Edges {
     }
 
     /// The link of a class.
-    fn link(&self, class: u32) -> Option<Link>
+    fn link(&self, class: u32) -> Option<ParentLink>
         ensures { result ≡ slice_get self.now.lineage.links.items class }
     {
         self.lineage.links.get(class as usize).copied()
     }
 
     /// Whether a class with these arguments has the list of its root.
-    fn has_list(&self, link: Link, lower: u32, args: &[Ty]) -> bool
+    fn has_list(&self, link: ParentLink, lower: u32, args: &[Ty]) -> bool
         ensures { result ≡ (nat_eq link.root lower || nat_eq (length (map bare args.now)) ((tables_in self.now).arity lower)) }
     {
         link.root == lower || self.has_arity(lower, args)
@@ -138,7 +138,7 @@ impl Edges {
     }
 
     /// The pair at a place.
-    fn entry(&self, place: u32) -> Option<Above>
+    fn entry(&self, place: u32) -> Option<Ancestor>
         ensures { result ≡ slice_get self.now.lineage.above.items place }
     {
         self.lineage.above.get(place as usize).copied()
@@ -146,11 +146,11 @@ impl Edges {
 
     /// Whether a pair leads from a class with these arguments to the upper type, or to a type below it in its tree.
     #[tactic(auto, unfolding(crate::specs::Deciding::is_by))]
-    fn is_by(&self, entry: Above, args: &[Ty], upper: u32, above: &[Ty]) -> bool
+    fn is_by(&self, entry: Ancestor, args: &[Ty], upper: u32, above: &[Ty]) -> bool
         ensures { result ≡ is_by (tables_in self.now) entry (map bare args.now) upper (map bare above.now) }
     {
         (entry.upper == upper || self.has_arity(upper, above))
-            && self.is_in_line(entry.upper, upper)
+            && self.has_ancestor(entry.upper, upper)
             && self.is_pair(entry.pair, args, above)
     }
 

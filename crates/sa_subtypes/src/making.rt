@@ -1,19 +1,19 @@
 //! The edges of a program are made and tried.
 
 ghost use Rattle.std.specs.Prelude.{◌≡◌, IfErr, IfOk, OnOk};
-ghost use Rattle.sa_subtypes.specs.Below.{AreSubtypesOf};
+ghost use Rattle.sa_subtypes.specs.SubtypeTest.{AreSubtypesOf};
 ghost use Rattle.sa_subtypes.specs.Refusals.{AreEdgesRight, RefusesEdges};
 
-use crate::edges::Edges;
-use sa_subtypes_lineage::arranged;
-use sa_subtypes_pairs::{Names, Work, first_misplaced, written_edges};
-use sa_tree::{Flat, FrontFault, Rule};
+use crate::edges::SubtypeRelation;
+use sa_ast::{FlatClass, Rejection, Rule};
+use sa_hierarchy::build_hierarchy;
+use sa_unify::{Names, WorkBudget, first_misplaced, written_edges};
 use std::alloc::Global;
 
 /// The name of the type that is above every type.
 pub(crate) const TOP: &[u8; 3] = b"$OB";
 
-impl Edges {
+impl SubtypeRelation {
     /// The edges of a program's classes.
     ///
     /// It refuses with E19 at the first type after a `<`, in text order, that is no abstract class; and, where there is
@@ -23,7 +23,7 @@ impl Edges {
     /// written. So they do only where they hold parameters many times over or where thousands of classes in a chain change
     /// the arguments.
     #[tactic(auto, using(crate::proofs::Answering::making, crate::proofs::Refusing::refusing))]
-    pub fn make(alloc: Global, flat: &Flat) -> Result<Edges, FrontFault>
+    pub fn make(alloc: Global, flat: &FlatClass) -> Result<SubtypeRelation, Rejection>
         ensures subtypes { IfOk result (λ edges. AreSubtypesOf flat.now edges) }
         ensures right { OnOk result (AreEdgesRight flat.now) }
         ensures refused { IfErr result (RefusesEdges flat.now) }
@@ -31,15 +31,15 @@ impl Edges {
         let classes = flat.classes.as_slice();
         let names = Names::make(alloc, classes)?;
         if let Some(pos) = first_misplaced(classes, &names) {
-            return Err(FrontFault::Refused(Rule::SupertypeNotAbstract.at(pos)));
+            return Err(Rejection::Refused(Rule::SupertypeNotAbstract.at(pos)));
         }
-        let mut work = Work::new();
+        let mut work = WorkBudget::new();
         let written = written_edges(alloc, &mut work, classes, &names)?;
-        let lineage = arranged(alloc, &mut work, classes, names, written.as_slice())?;
-        let mut trial = Work::new();
+        let lineage = build_hierarchy(alloc, &mut work, classes, names, written.as_slice())?;
+        let mut trial = WorkBudget::new();
         lineage.try_tables(alloc, &mut trial)?;
         lineage.try_written(alloc, written.as_slice())?;
         let top = lineage.names.class(TOP.as_slice());
-        Ok(Edges { lineage, top })
+        Ok(SubtypeRelation { lineage, top })
     }
 }

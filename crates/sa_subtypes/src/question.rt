@@ -7,16 +7,16 @@
 ghost use Rattle.std.specs.Prelude.{◌≡◌, drop, length, map, slice_get};
 ghost use Rattle.std.specs.Option.{option_map};
 ghost use Rattle.sa_subtypes.specs.Questions.{both_fit, class_fits, comparing, counts_up, first_fits, is_end, is_number, item_of};
-ghost use Rattle.sa_subtypes.specs.Questions.{pair_fits, past, reached, seeking, stands, upper_fits, value_below, value_from};
+ghost use Rattle.sa_subtypes.specs.Questions.{pair_fits, past, reached, seeking, occurs, upper_fits, value_below, value_from};
 ghost use Rattle.sa_subtypes.specs.Questions.{value_in, walk, walk_all, walk_arg, walk_args, walk_inside, walk_mode, walk_result};
-ghost use Rattle.sa_subtypes_pairs.specs.Spelled.{a_type};
-ghost use Rattle.sa_tree.specs.Types.{all_bare, all_bare_args, bare, bare_arg, option_bare};
+ghost use Rattle.sa_unify.specs.Spelled.{a_type};
+ghost use Rattle.sa_ast.specs.Types.{all_bare, all_bare_args, bare, bare_arg, option_bare};
 
-use crate::beside::{Beside, beside_at, is_count};
-use crate::part::{Part, is_same};
-use crate::seek::{Found, first_in, search_types};
-use sa_subtypes_pairs::Node;
-use sa_tree::{Mode, ModeTy, Ty};
+use crate::node_match::{NodeMatch, is_count, match_at};
+use crate::part::{TypePart, is_same};
+use crate::seek::{SearchResult, first_in, search_types};
+use sa_ast::{Mode, ModeTy, Ty};
+use sa_unify::Node;
 use sqlite_items::Boxed;
 
 /// The nodes of a pair behind the first, and those of the upper type's arguments, with the arguments of two types.
@@ -64,9 +64,9 @@ fn arguments_fit(nodes: &[Node], lower: &[Ty], upper: &[Ty]) -> bool
         nodes.now (walk_all (seeking None) (all_bare lower.now) nodes.now) }
 {
     match search_types(nodes, 0, None, lower) {
-        Found::Behind(end) => upper_fits(nodes, end, lower, upper),
-        Found::Here(_) => false,
-        Found::Nothing => false,
+        SearchResult::Behind(end) => upper_fits(nodes, end, lower, upper),
+        SearchResult::Here(_) => false,
+        SearchResult::Nothing => false,
     }
 }
 
@@ -167,16 +167,16 @@ impl<'a> Question<'a> {
     fn fits(&self, nodes: &[Node], at: usize, ty: &Ty) -> Option<usize>
         ensures { reached nodes.now result ≡ walk (comparing (value_in self.now)) (bare ty.now) (drop at nodes.now) }
     {
-        match beside_at(nodes, at, Part::Typed(ty)) {
-            Beside::Variable(number, next) => {
-                if self.stands(number, Part::Typed(ty)) {
+        match match_at(nodes, at, TypePart::Typed(ty)) {
+            NodeMatch::Variable(number, next) => {
+                if self.occurs(number, TypePart::Typed(ty)) {
                     Some(next)
                 } else {
                     None
                 }
             }
-            Beside::Head(next) => self.inside_fits(nodes, next, ty),
-            Beside::Another => None,
+            NodeMatch::Head(next) => self.inside_fits(nodes, next, ty),
+            NodeMatch::Another => None,
         }
     }
 
@@ -240,16 +240,16 @@ impl<'a> Question<'a> {
     fn mode_fits(&self, nodes: &[Node], at: usize, mode: Mode) -> Option<usize>
         ensures { reached nodes.now result ≡ walk_mode (comparing (value_in self.now)) mode (drop at nodes.now) }
     {
-        match beside_at(nodes, at, Part::Passed(mode)) {
-            Beside::Variable(number, next) => {
-                if self.stands(number, Part::Passed(mode)) {
+        match match_at(nodes, at, TypePart::Passed(mode)) {
+            NodeMatch::Variable(number, next) => {
+                if self.occurs(number, TypePart::Passed(mode)) {
                     Some(next)
                 } else {
                     None
                 }
             }
-            Beside::Head(next) => Some(next),
-            Beside::Another => None,
+            NodeMatch::Head(next) => Some(next),
+            NodeMatch::Another => None,
         }
     }
 
@@ -266,8 +266,8 @@ impl<'a> Question<'a> {
 
     /// Whether this is what stands for a variable.
     #[tactic(auto, using(crate::proofs::Comparing::values))]
-    fn stands(&self, number: u32, part: Part<'_>) -> bool
-        ensures { result ≡ stands (value_in self.now number) (item_of part.entry) }
+    fn occurs(&self, number: u32, part: TypePart<'_>) -> bool
+        ensures { result ≡ occurs (value_in self.now number) (item_of part.entry) }
     {
         match self.value(number) {
             Some(own) => is_same(own, part),
@@ -277,7 +277,7 @@ impl<'a> Question<'a> {
 
     /// What stands for a variable: what stands beside it where it comes first.
     #[tactic(auto, using(crate::proofs::Comparing::values))]
-    fn value(&self, number: u32) -> Option<Part<'a>>
+    fn value(&self, number: u32) -> Option<TypePart<'a>>
         ensures { option_map item_of result ≡ value_in self.now number }
     {
         match self.value_below(number) {
@@ -287,7 +287,7 @@ impl<'a> Question<'a> {
     }
 
     #[tactic(auto, using(crate::proofs::Comparing::values))]
-    fn value_below(&self, number: u32) -> Option<Part<'a>>
+    fn value_below(&self, number: u32) -> Option<TypePart<'a>>
         ensures { option_map item_of result ≡ value_below self.now.plain (map bare self.now.lower.now) self.now.nodes.now number }
     {
         if self.plain {
@@ -309,12 +309,12 @@ fn is_at_end(nodes: &[Node], place: usize) -> bool
 }
 
 #[tactic(auto, using(crate::proofs::Comparing::values))]
-fn type_at<'a>(types: &'a [Ty], number: u32) -> Option<Part<'a>>
+fn type_at<'a>(types: &'a [Ty], number: u32) -> Option<TypePart<'a>>
     ensures { option_map item_of result ≡ option_map a_type (slice_get (map bare types.now) number) }
 {
     let place = number as usize;
     if place < types.len() {
-        return Some(Part::Typed(&types[place]));
+        return Some(TypePart::Typed(&types[place]));
     }
     None
 }

@@ -2,15 +2,15 @@
 //! types.
 
 ghost use Rattle.std.specs.Prelude.{◌≡◌};
-ghost use Rattle.sa_subtypes.specs.Below.{below, immutable_in};
-ghost use Rattle.sa_subtypes_pairs.specs.Numbers.{kind_bare};
+ghost use Rattle.sa_subtypes.specs.SubtypeTest.{is_subtype, immutable_in};
+ghost use Rattle.sa_unify.specs.Numbers.{kind_bare};
 ghost use Rattle.sa_subtypes.specs.Subtypes.{is_immutable_kind};
-ghost use Rattle.sa_tree.specs.Types.{bare};
+ghost use Rattle.sa_ast.specs.Types.{bare};
 
-use crate::edges::Edges;
-use sa_tree::{Kind, Ty};
+use crate::edges::SubtypeRelation;
+use sa_ast::{ClassKind, Ty};
 
-impl Edges {
+impl SubtypeRelation {
     /// The place among the program's classes of the class with this name.
     pub fn class_place(&self, name: &[u8]) -> Option<u32> {
         self.lineage.names.class(name)
@@ -29,7 +29,7 @@ impl Edges {
     }
 
     /// What kind of class a type is. A bound type is a reference class; SAME and a name that is no class have none.
-    pub fn kind(&self, t: &Ty) -> Option<Kind>
+    pub fn kind(&self, t: &Ty) -> Option<ClassKind>
         ensures { result ≡ kind_bare self.now.lineage.names (bare t.now) }
     {
         self.lineage.names.kind(t)
@@ -47,20 +47,20 @@ impl Edges {
 
     /// Whether `s` is a subtype of `t`. It takes no memory.
     pub fn is_sub(&self, s: &Ty, t: &Ty) -> bool
-        ensures { result ≡ below self.now s.now t.now }
+        ensures { result ≡ is_subtype self.now s.now t.now }
     {
         self.holds(s, t, false)
     }
 }
 
 /// Whether it is the kind of the immutable classes.
-fn is_immutable_kind(kind: Kind) -> bool
+fn is_immutable_kind(kind: ClassKind) -> bool
     ensures { result ≡ is_immutable_kind kind }
 {
     match kind {
-        Kind::Reference => false,
-        Kind::Immutable => true,
-        Kind::Abstract => false,
-        Kind::Partial => false,
+        ClassKind::Reference => false,
+        ClassKind::Immutable => true,
+        ClassKind::Abstract => false,
+        ClassKind::Partial => false,
     }
 }

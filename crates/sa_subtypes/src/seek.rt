@@ -4,19 +4,19 @@ ghost use Rattle.std.specs.Prelude.{◌≡◌, drop};
 ghost use Rattle.std.specs.Option.{option_map};
 ghost use Rattle.sa_subtypes.specs.Questions.{first_in, is_wanted, item_of, seeking, seen, walk, walk_all};
 ghost use Rattle.sa_subtypes.specs.Questions.{walk_arg, walk_args, walk_inside, walk_mode, walk_result};
-ghost use Rattle.sa_tree.specs.Types.{all_bare, all_bare_args, bare, bare_arg, option_bare};
+ghost use Rattle.sa_ast.specs.Types.{all_bare, all_bare_args, bare, bare_arg, option_bare};
 
-use crate::beside::{Beside, beside_at};
-use crate::part::Part;
-use sa_subtypes_pairs::Node;
-use sa_tree::{Mode, ModeTy, Ty};
+use crate::node_match::{NodeMatch, match_at};
+use crate::part::TypePart;
+use sa_ast::{Mode, ModeTy, Ty};
+use sa_unify::Node;
 use sqlite_items::Boxed;
 
 /// What a search for the first place of a variable has found.
 #[derive(Clone, Copy)]
-pub(crate) enum Found<'a> {
+pub(crate) enum SearchResult<'a> {
     /// What stands beside it there.
-    Here(Part<'a>),
+    Here(TypePart<'a>),
     /// Nothing up to this place.
     Behind(usize),
     /// The nodes aren't those of the types.
@@ -25,53 +25,53 @@ pub(crate) enum Found<'a> {
 
 /// What stands beside a variable where it comes first, among nodes beside types.
 #[tactic(auto, using(crate::proofs::Comparing::values))]
-pub(crate) fn first_in<'a>(number: u32, types: &'a [Ty], nodes: &[Node]) -> Option<Part<'a>>
+pub(crate) fn first_in<'a>(number: u32, types: &'a [Ty], nodes: &[Node]) -> Option<TypePart<'a>>
     ensures { option_map item_of result ≡ first_in number (all_bare types.now) nodes.now }
 {
     match search_types(nodes, 0, Some(number), types) {
-        Found::Here(part) => Some(part),
-        Found::Behind(_) => None,
-        Found::Nothing => None,
+        SearchResult::Here(part) => Some(part),
+        SearchResult::Behind(_) => None,
+        SearchResult::Nothing => None,
     }
 }
 
 /// Searches the nodes from a place on, beside a type, for the first place of a variable, or for none.
 #[tactic(auto, using(crate::proofs::Comparing::steps))]
 #[cycle(search)]
-fn search<'a>(nodes: &[Node], at: usize, wanted: Option<u32>, ty: &'a Ty) -> Found<'a>
+fn search<'a>(nodes: &[Node], at: usize, wanted: Option<u32>, ty: &'a Ty) -> SearchResult<'a>
     ensures { seen nodes.now result ≡ walk (seeking wanted) (bare ty.now) (drop at nodes.now) }
 {
-    match beside_at(nodes, at, Part::Typed(ty)) {
-        Beside::Variable(number, next) => {
+    match match_at(nodes, at, TypePart::Typed(ty)) {
+        NodeMatch::Variable(number, next) => {
             if is_wanted(wanted, number) {
-                Found::Here(Part::Typed(ty))
+                SearchResult::Here(TypePart::Typed(ty))
             } else {
-                Found::Behind(next)
+                SearchResult::Behind(next)
             }
         }
-        Beside::Head(next) => search_inside(nodes, next, wanted, ty),
-        Beside::Another => Found::Nothing,
+        NodeMatch::Head(next) => search_inside(nodes, next, wanted, ty),
+        NodeMatch::Another => SearchResult::Nothing,
     }
 }
 
 /// The same in what a type holds.
 #[tactic(auto, using(crate::proofs::Comparing::insides))]
 #[cycle(search)]
-fn search_inside<'a>(nodes: &[Node], at: usize, wanted: Option<u32>, ty: &'a Ty) -> Found<'a>
+fn search_inside<'a>(nodes: &[Node], at: usize, wanted: Option<u32>, ty: &'a Ty) -> SearchResult<'a>
     ensures { seen nodes.now result ≡ walk_inside (seeking wanted) (bare ty.now) (drop at nodes.now) }
 {
     match ty {
         Ty::Named(_, args, _) => search_types(nodes, at, wanted, args.as_slice()),
-        Ty::Same(_) => Found::Behind(at),
+        Ty::Same(_) => SearchResult::Behind(at),
         Ty::Rout(args, result, _) => match search_args(nodes, at, wanted, args.as_slice()) {
-            Found::Here(part) => Found::Here(part),
-            Found::Behind(next) => search_result(nodes, next, wanted, result),
-            Found::Nothing => Found::Nothing,
+            SearchResult::Here(part) => SearchResult::Here(part),
+            SearchResult::Behind(next) => search_result(nodes, next, wanted, result),
+            SearchResult::Nothing => SearchResult::Nothing,
         },
         Ty::Iter(args, result, _) => match search_args(nodes, at, wanted, args.as_slice()) {
-            Found::Here(part) => Found::Here(part),
-            Found::Behind(next) => search_result(nodes, next, wanted, result),
-            Found::Nothing => Found::Nothing,
+            SearchResult::Here(part) => SearchResult::Here(part),
+            SearchResult::Behind(next) => search_result(nodes, next, wanted, result),
+            SearchResult::Nothing => SearchResult::Nothing,
         },
     }
 }
@@ -84,64 +84,74 @@ pub(crate) fn search_types<'a>(
     at: usize,
     wanted: Option<u32>,
     types: &'a [Ty],
-) -> Found<'a>
+) -> SearchResult<'a>
     ensures { seen nodes.now result ≡ walk_all (seeking wanted) (all_bare types.now) (drop at nodes.now) }
 {
     let mut next = at;
     for ty in types {
         match search(nodes, next, wanted, ty) {
-            Found::Here(part) => return Found::Here(part),
-            Found::Behind(behind) => next = behind,
-            Found::Nothing => return Found::Nothing,
+            SearchResult::Here(part) => return SearchResult::Here(part),
+            SearchResult::Behind(following) => next = following,
+            SearchResult::Nothing => return SearchResult::Nothing,
         }
     }
-    Found::Behind(next)
+    SearchResult::Behind(next)
 }
 
 /// The same in the arguments of a bound type.
 #[tactic(auto, using(crate::proofs::Comparing::loops))]
 #[cycle(search)]
-fn search_args<'a>(nodes: &[Node], at: usize, wanted: Option<u32>, args: &'a [ModeTy]) -> Found<'a>
+fn search_args<'a>(
+    nodes: &[Node],
+    at: usize,
+    wanted: Option<u32>,
+    args: &'a [ModeTy],
+) -> SearchResult<'a>
     ensures { seen nodes.now result ≡ walk_args (seeking wanted) (all_bare_args args.now) (drop at nodes.now) }
 {
     let mut next = at;
     for arg in args {
         match search_arg(nodes, next, wanted, arg) {
-            Found::Here(part) => return Found::Here(part),
-            Found::Behind(behind) => next = behind,
-            Found::Nothing => return Found::Nothing,
+            SearchResult::Here(part) => return SearchResult::Here(part),
+            SearchResult::Behind(following) => next = following,
+            SearchResult::Nothing => return SearchResult::Nothing,
         }
     }
-    Found::Behind(next)
+    SearchResult::Behind(next)
 }
 
 /// The same in an argument: a mode stands before its type.
 #[tactic(auto, using(crate::proofs::Comparing::insides))]
 #[cycle(search)]
-fn search_arg<'a>(nodes: &[Node], at: usize, wanted: Option<u32>, arg: &'a ModeTy) -> Found<'a>
+fn search_arg<'a>(
+    nodes: &[Node],
+    at: usize,
+    wanted: Option<u32>,
+    arg: &'a ModeTy,
+) -> SearchResult<'a>
     ensures { seen nodes.now result ≡ walk_arg (seeking wanted) (bare_arg arg.now) (drop at nodes.now) }
 {
     match search_mode(nodes, at, wanted, arg.mode) {
-        Found::Here(part) => Found::Here(part),
-        Found::Behind(next) => search(nodes, next, wanted, &arg.ty),
-        Found::Nothing => Found::Nothing,
+        SearchResult::Here(part) => SearchResult::Here(part),
+        SearchResult::Behind(next) => search(nodes, next, wanted, &arg.ty),
+        SearchResult::Nothing => SearchResult::Nothing,
     }
 }
 
 #[tactic(auto, using(crate::proofs::Comparing::steps))]
-fn search_mode<'a>(nodes: &[Node], at: usize, wanted: Option<u32>, mode: Mode) -> Found<'a>
+fn search_mode<'a>(nodes: &[Node], at: usize, wanted: Option<u32>, mode: Mode) -> SearchResult<'a>
     ensures { seen nodes.now result ≡ walk_mode (seeking wanted) mode (drop at nodes.now) }
 {
-    match beside_at(nodes, at, Part::Passed(mode)) {
-        Beside::Variable(number, next) => {
+    match match_at(nodes, at, TypePart::Passed(mode)) {
+        NodeMatch::Variable(number, next) => {
             if is_wanted(wanted, number) {
-                Found::Here(Part::Passed(mode))
+                SearchResult::Here(TypePart::Passed(mode))
             } else {
-                Found::Behind(next)
+                SearchResult::Behind(next)
             }
         }
-        Beside::Head(next) => Found::Behind(next),
-        Beside::Another => Found::Nothing,
+        NodeMatch::Head(next) => SearchResult::Behind(next),
+        NodeMatch::Another => SearchResult::Nothing,
     }
 }
 
@@ -152,11 +162,11 @@ fn search_result<'a>(
     at: usize,
     wanted: Option<u32>,
     of: &'a Option<Boxed<Ty>>,
-) -> Found<'a>
+) -> SearchResult<'a>
     ensures { seen nodes.now result ≡ walk_result (seeking wanted) (option_bare of.now) (drop at nodes.now) }
 {
     match of {
-        None => Found::Behind(at),
+        None => SearchResult::Behind(at),
         Some(ty) => search(nodes, at, wanted, ty.get()),
     }
 }

@@ -1,3 +1,3 @@
-pub mod Frames
-pub mod Handing
+pub mod TraceRecords
+pub mod Writing
 pub mod Pieces

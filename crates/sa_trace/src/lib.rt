@@ -2,12 +2,12 @@
 //! instances of its iters to another.
 #![tactic(auto)]
 
-mod first_frame;
-mod frame;
+mod first_record;
 mod line;
-mod parting;
 mod sinks;
+mod trace_parser;
+mod trace_record;
 
-pub use frame::{Event, Frame, Kind};
-pub use parting::Parting;
-pub use sinks::{Listening, hand_on};
+pub use sinks::{ErrStatus, write_records};
+pub use trace_parser::TraceParser;
+pub use trace_record::{Event, EventKind, TraceRecord};

@@ -1,12 +1,12 @@
 //! The line of an event.
 
 ghost use Rattle.std.specs.Prelude.{◌≡◌, [], slice_get, unwrap_or, IfOk};
-ghost use Rattle.sa_trace.specs.Frames.{IsPlace};
-ghost use Rattle.sa_trace.specs.Handing.{line};
+ghost use Rattle.sa_trace.specs.TraceRecords.{IsPlace};
+ghost use Rattle.sa_trace.specs.Writing.{line};
 
-use crate::frame::Event;
+use crate::trace_record::Event;
 use itoa::Buffer;
-use sa_tree::{Sources, line_of};
+use sa_ast::{Sources, line_of};
 use std::alloc::{AllocError, Global};
 
 /// `EVENT FILE:LINE NUMBER`, ended by a line feed.

@@ -1,19 +1,19 @@
 //! Frames on their way to the sinks: the bytes of the output to out, the lines of the events to err, in the order of the frames.
 
 ghost use Rattle.std.specs.Prelude.{◌≡◌, ◌≤◌, ◌++◌, ◌∷◌, [], OnOk, OnErr, IsErrOf, IsOkUnless};
-ghost use Rattle.sa_outside.specs.Faults.{Rose};
-ghost use Rattle.sa_trace.specs.Frames.{ArePlaced, IsPlace};
-ghost use Rattle.sa_trace.specs.Handing.{Hands, HandsFront, Hears, HearsPart, line, sink};
+ghost use Rattle.host_io.specs.Faults.{Rose};
+ghost use Rattle.sa_trace.specs.TraceRecords.{ArePlaced, IsPlace};
+ghost use Rattle.sa_trace.specs.Writing.{WritesRecords, WritesFront, Hears, HearsPart, line, sink};
 
-use crate::frame::{Event, Frame};
 use crate::line::line;
-use sa_outside::{Outage, Sink};
-use sa_tree::Sources;
+use crate::trace_record::{Event, TraceRecord};
+use host_io::{Outage, Sink};
+use sa_ast::Sources;
 use std::alloc::Global;
 
 /// Whether err still takes lines.
 #[derive(Clone, Copy, Debug, PartialEq, Eq)]
-pub enum Listening {
+pub enum ErrStatus {
     Yes,
     /// It has failed, and nothing more is put on it.
     Failed,
@@ -22,23 +22,23 @@ pub enum Listening {
 }
 
 /// Hands frames on, up to an outage. A failure of err is none.
-pub fn hand_on<O: Sink, E: Sink>(
+pub fn write_records<O: Sink, E: Sink>(
     alloc: Global,
-    frames: &[Frame],
+    frames: &[TraceRecord],
     sources: &Sources,
-    listening: &mut Listening,
+    listening: &mut ErrStatus,
     out: &mut O,
     err: &mut E,
 ) -> Result<(), Outage>
     requires placed { ArePlaced sources.now frames.now }
-    ensures ok { OnOk result (Hands sources.now frames.now (sink (O.output out.old) (O.faults out.old))
+    ensures ok { OnOk result (WritesRecords sources.now frames.now (sink (O.output out.old) (O.faults out.old))
         (sink (O.output out.new) (O.faults out.new)) listening.old listening.new (sink (E.output err.old) (E.faults err.old))
         (sink (E.output err.new) (E.faults err.new))) }
-    ensures part { OnErr result (HandsFront sources.now frames.now (sink (O.output out.old) (O.faults out.old))
+    ensures part { OnErr result (WritesFront sources.now frames.now (sink (O.output out.old) (O.faults out.old))
         (sink (O.output out.new) (O.faults out.new)) (HearsPart listening.old listening.new (sink (E.output err.old) (E.faults err.old))
         (sink (E.output err.new) (E.faults err.new)))) }
     // Where out fails, err has the whole lines.
-    ensures lines { IsErrOf result Outage.Failed → HandsFront sources.now frames.now (sink (O.output out.old) (O.faults out.old))
+    ensures lines { IsErrOf result Outage.Failed → WritesFront sources.now frames.now (sink (O.output out.old) (O.faults out.old))
         (sink (O.output out.new) (O.faults out.new)) (Hears listening.old listening.new (sink (E.output err.old) (E.faults err.old))
         (sink (E.output err.new) (E.faults err.new))) }
     ensures failed { IsErrOf result Outage.Failed → Rose (O.faults out.old) (O.faults out.new) }
@@ -48,8 +48,8 @@ pub fn hand_on<O: Sink, E: Sink>(
     let mut held = Vec::new(alloc);
     for frame in frames {
         match frame {
-            Frame::Byte(byte) => hold(&mut held, *byte)?,
-            Frame::Event(event) => {
+            TraceRecord::Byte(byte) => hold(&mut held, *byte)?,
+            TraceRecord::Event(event) => {
                 out.put(held.as_slice())?;
                 held.clear();
                 tell(alloc, event, sources, listening, err)?;
@@ -75,7 +75,7 @@ fn tell<E: Sink>(
     alloc: Global,
     event: &Event,
     sources: &Sources,
-    listening: &mut Listening,
+    listening: &mut ErrStatus,
     err: &mut E,
 ) -> Result<(), Outage>
     requires placed { IsPlace sources.now event.now.at }
@@ -86,7 +86,7 @@ fn tell<E: Sink>(
     ensures sure { IsOkUnless result Outage.NoMemory }
     ensures count { E.faults err.old ≤ E.faults err.new }
 {
-    if *listening != Listening::Yes {
+    if *listening != ErrStatus::Yes {
         return Ok(());
     }
     let Ok(line) = line(alloc, event, sources) else {
@@ -95,11 +95,11 @@ fn tell<E: Sink>(
     match err.put(line.as_slice()) {
         Ok(()) => Ok(()),
         Err(Outage::Failed) => {
-            *listening = Listening::Failed;
+            *listening = ErrStatus::Failed;
             Ok(())
         }
         Err(Outage::NoMemory) => {
-            *listening = Listening::NoMemory;
+            *listening = ErrStatus::NoMemory;
             Err(Outage::NoMemory)
         }
     }

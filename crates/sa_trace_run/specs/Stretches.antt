@@ -1,33 +1,33 @@
 -- The stretches of a run, each with a sink of its own, as one run with one sink.
 use Rattle.std.specs.Prelude.{◌≡◌, ◌≢◌, ◌⊎◌, ℕ, Bool, List, [], Option, Some, None}
-use Rattle.sa_outside.specs.Input as source
-use Rattle.sa_tree.specs.declared.pos.Pos.{Pos}
-use Rattle.sa_tree.specs.declared.pos.Sources.{Sources}
-use Rattle.sa_trace.specs.Pieces.{Left}
+use Rattle.host_io.specs.Input as source
+use Rattle.sa_ast.specs.declared.pos.Pos.{Pos}
+use Rattle.sa_ast.specs.declared.pos.Sources.{Sources}
+use Rattle.sa_trace.specs.Pieces.{ParserState}
 use Rattle.wa_syntax.specs.declared.module.Module.{Module}
 use Rattle.wa_syntax.specs.Machine.{Input}
 use Rattle.wa_syntax.specs.Runs.{IsLinked}
 use Rattle.wa_syntax.specs.ValidModule.{IsValid}
-use Rattle.wa_code.specs.Codes.{row_of}
-use Rattle.wa_code.specs.Laid.{Row}
+use Rattle.wa_flatten.specs.Codes.{layout_of}
+use Rattle.wa_flatten.specs.Layouts.{Layout}
 use Rattle.wa_exec.specs.Goes.{first}
 use Rattle.wa_exec.specs.Linking.{flat_of}
-use Rattle.wa_exec.specs.Machines.{Flat, Stands}
-use Rattle.wa_exec.specs.Outside.{Makes, sides}
+use Rattle.wa_exec.specs.Machines.{Flat, Represents}
+use Rattle.wa_exec.specs.Interaction.{Makes, sides}
 use Rattle.wa_exec.specs.Progress.{Progress, Runs}
 use Rattle.wa_run.specs.declared.answer.Answer.{Answer}
 use Rattle.wa_run.specs.declared.answer.Answer.TheVariants as answer
 use Rattle.wa_run.specs.Runs.{HasRunModule, streams}
-use Rattle.sa_trace_run.specs.Traced.{AreTold, Sinks, SoFar}
+use Rattle.sa_trace_run.specs.Traced.{AreReported, Sinks, SoFar}
 
 -- how a run began: with a module and the code and the state of its machine, over an input
 pub record Beginning : Type 0 where
   pub program : Module
   pub valid : IsValid program
   pub linked : IsLinked program
-  pub row : Row
+  pub row : Layout
   pub flat : Flat
-  pub begins : (input : Input) → Stands program row flat (first program input)
+  pub begins : (input : Input) → Represents program row flat (first program input)
   pub input : Option source.Input
   pub ended : Bool
 
@@ -45,7 +45,7 @@ module _ (b : Beginning) where
         (sides input ended (Some put)) [] []
     pub none : held ≡ []
     pub runs : Runs b.program machine
-    pub row_is : row_of machine.linked.code ≡ b.row
+    pub row_is : layout_of machine.linked.code ≡ b.row
 
   -- A stretch ends with this answer. It is the answer of the run, if no more fuel is left where it is spent; out may fail then, or
   -- memory run out, unless the input has failed
@@ -58,7 +58,7 @@ module _ (b : Beginning) where
     pub goes : given ≡ answer.Spent → GoesOn machine held input ended put
 
   -- a run that can go on, and all frames of what it has put so far were handed on
-  pub record IsUnderWay (positions : List Pos) (sources : Sources) (machine : Progress) (held : List ℕ) (left : Left)
+  pub record IsUnderWay (positions : List Pos) (sources : Sources) (machine : Progress) (held : List ℕ) (left : ParserState)
       (input : Option source.Input) (ended : Bool) (s : Sinks) : Type 0 where
     pub put : List ℕ
     pub goes : GoesOn machine held input ended put
@@ -67,8 +67,8 @@ module _ (b : Beginning) where
   -- A stretch of a run under way ends with this answer, and what the run has put was told. The answer is that of the run, if no
   -- more fuel is left where it is spent
   pub record IsStretch (positions : List Pos) (sources : Sources) (fuel : ℕ) (given : Answer) (machine : Progress) (held : List ℕ)
-      (left : Left) (input : Option source.Input) (ended : Bool) (s : Sinks) : Type 0 where
+      (left : ParserState) (input : Option source.Input) (ended : Bool) (s : Sinks) : Type 0 where
     pub put : List ℕ
     pub whole : (given ≡ answer.Spent → machine.steps ≡ fuel) → HasRunTo fuel given machine.steps input put
-    pub told : AreTold positions sources put s given
+    pub reported : AreReported positions sources put s given
     pub goes : given ≡ answer.Spent → IsUnderWay positions sources machine held left input ended s

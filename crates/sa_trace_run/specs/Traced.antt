@@ -1,15 +1,15 @@
 -- What the run of a traced module left of out and err.
 use Rattle.std.specs.Prelude.{◌≡◌, ◌⊎◌, ◌≤◌, ℕ, List, ◌++◌}
-use Rattle.sa_outside.specs.Faults.{Rose}
-use Rattle.sa_outside.specs.Output.{TookFront}
-use Rattle.sa_tree.specs.declared.pos.Pos.{Pos}
-use Rattle.sa_tree.specs.declared.pos.Sources.{Sources}
-use Rattle.sa_trace.specs.Frames.{AreFrames, Framed, output_of}
-use Rattle.sa_trace.specs.Handing.{Hands, Hears, HearsPart, Sink, lines_of}
-use Rattle.sa_trace.specs.Pieces.{HasRead, Left}
-use Rattle.sa_trace.specs.declared.frame.Frame.{Frame}
-use Rattle.sa_trace.specs.declared.sinks.Listening.{Listening}
-use Rattle.sa_trace.specs.declared.sinks.Listening.TheVariants as listening
+use Rattle.host_io.specs.Faults.{Rose}
+use Rattle.host_io.specs.Output.{TookFront}
+use Rattle.sa_ast.specs.declared.pos.Pos.{Pos}
+use Rattle.sa_ast.specs.declared.pos.Sources.{Sources}
+use Rattle.sa_trace.specs.TraceRecords.{AreTraceRecords, TraceEncoding, output_of}
+use Rattle.sa_trace.specs.Writing.{WritesRecords, Hears, HearsPart, Sink, lines_of}
+use Rattle.sa_trace.specs.Pieces.{HasRead, ParserState}
+use Rattle.sa_trace.specs.declared.trace_record.TraceRecord.{TraceRecord}
+use Rattle.sa_trace.specs.declared.sinks.ErrStatus.{ErrStatus}
+use Rattle.sa_trace.specs.declared.sinks.ErrStatus.TheVariants as listening
 use Rattle.wa_run.specs.declared.answer.Answer.{Answer}
 use Rattle.wa_run.specs.declared.answer.Answer.TheVariants as answer
 
@@ -19,9 +19,9 @@ pub record Sinks : Type 0 where
   pub out_new : Sink
   pub err_old : Sink
   pub err_new : Sink
-  pub listening : Listening
+  pub listening : ErrStatus
 
-abbrev pub sinks : (out_old out_new err_old err_new : Sink) → Listening → Sinks
+abbrev pub sinks : (out_old out_new err_old err_new : Sink) → ErrStatus → Sinks
 sinks out_old out_new err_old err_new listening =
     record { out_old = out_old; out_new = out_new; err_old = err_old; err_new = err_new; listening = listening }
 
@@ -30,38 +30,38 @@ abbrev pub IsOutFault : Answer → Type 0
 IsOutFault given = (given ≡ answer.OutFault) ⊎ (given ≡ answer.InFault)
 
 -- and where memory runs out on the way to out and err
-abbrev pub IsShort : Answer → Listening → Type 0
+abbrev pub IsShort : Answer → ErrStatus → Type 0
 IsShort given now = (given ≡ answer.NoMemory) ⊎ ((given ≡ answer.InFault) × (now ≡ listening.NoMemory))
 
 module _ (positions : List Pos) (sources : Sources) where
   -- all frames of the bytes were handed on
-  pub record AreHandedOn (bytes : List ℕ) (s : Sinks) : Type 0 where
-    pub frames : List Frame
-    pub framed : Framed positions sources bytes frames
-    pub hands : Hands sources frames s.out_old s.out_new listening.Yes s.listening s.err_old s.err_new
+  pub record AreRecordsWritten (bytes : List ℕ) (s : Sinks) : Type 0 where
+    pub frames : List TraceRecord
+    pub framed : TraceEncoding positions sources bytes frames
+    pub hands : WritesRecords sources frames s.out_old s.out_new listening.Yes s.listening s.err_old s.err_new
 
   -- so were the frames of a front of the bytes, but for a part of their output, and this was heard of their events
-  pub record FrontIsHandedOn (bytes : List ℕ) (s : Sinks) (Heard : (lines : List ℕ) → Type 0) : Type 0 where
+  pub record FrontIsWritten (bytes : List ℕ) (s : Sinks) (Heard : (lines : List ℕ) → Type 0) : Type 0 where
     pub front : List ℕ
     pub rest : List ℕ
     pub split : bytes ≡ front ++ rest
-    pub told : List Frame
-    pub are : AreFrames positions sources front told
-    pub out : TookFront s.out_old.taken s.out_new.taken (output_of told)
-    pub err : Heard (lines_of sources told)
+    pub reported : List TraceRecord
+    pub are : AreTraceRecords positions sources front reported
+    pub out : TookFront s.out_old.taken s.out_new.taken (output_of reported)
+    pub err : Heard (lines_of sources reported)
 
   -- The bytes are frames, which were handed on: all of them, or up to where out failed, or to where memory ran out
-  abbrev pub AreTold : (bytes : List ℕ) → Sinks → Answer → Type 0
-  AreTold bytes s given =
-      AreHandedOn bytes s
+  abbrev pub AreReported : (bytes : List ℕ) → Sinks → Answer → Type 0
+  AreReported bytes s given =
+      AreRecordsWritten bytes s
       ⊎ (IsOutFault given × Rose s.out_old.faults s.out_new.faults
-      × FrontIsHandedOn bytes s (Hears listening.Yes s.listening s.err_old s.err_new))
-      ⊎ (IsShort given s.listening × FrontIsHandedOn bytes s (HearsPart listening.Yes s.listening s.err_old s.err_new))
+      × FrontIsWritten bytes s (Hears listening.Yes s.listening s.err_old s.err_new))
+      ⊎ (IsShort given s.listening × FrontIsWritten bytes s (HearsPart listening.Yes s.listening s.err_old s.err_new))
 
   -- so far all frames of these bytes were handed on, and this is left behind them
-  pub record SoFar (bytes : List ℕ) (left : Left) (s : Sinks) : Type 0 where
-    pub frames : List Frame
+  pub record SoFar (bytes : List ℕ) (left : ParserState) (s : Sinks) : Type 0 where
+    pub frames : List TraceRecord
     pub read : HasRead positions sources bytes frames left
-    pub hands : Hands sources frames s.out_old s.out_new listening.Yes s.listening s.err_old s.err_new
+    pub hands : WritesRecords sources frames s.out_old s.out_new listening.Yes s.listening s.err_old s.err_new
     pub out_count : s.out_old.faults ≤ s.out_new.faults
     pub err_count : s.err_old.faults ≤ s.err_new.faults

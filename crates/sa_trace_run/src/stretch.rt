@@ -1,32 +1,32 @@
 //! A stretch of a run: the module runs up to a number of steps, and what it has put is parted into frames, which are handed on.
 
 ghost use Rattle.std.specs.Prelude.{◌≡◌, ◌≤◌, ◌++◌, ℕ, List, [], None, IsErrOf, OnErr, OnOk};
-ghost use Rattle.sa_outside.specs.Faults.{Rose};
-ghost use Rattle.sa_trace.specs.Handing.{Hears, HearsPart, Sink as Taken, sink};
+ghost use Rattle.host_io.specs.Faults.{Rose};
+ghost use Rattle.sa_trace.specs.Writing.{Hears, HearsPart, Sink as Taken, sink};
 ghost use Rattle.sa_trace_run.specs.Stretches.{Beginning, CameTo, GoesOn, IsStretch, IsUnderWay};
-ghost use Rattle.sa_trace_run.specs.Traced.{FrontIsHandedOn, SoFar, sinks};
-ghost use Rattle.wa_run.specs.Answers.{IsBeforeRun, IsTold};
+ghost use Rattle.sa_trace_run.specs.Traced.{FrontIsWritten, SoFar, sinks};
+ghost use Rattle.wa_run.specs.Answers.{IsBeforeRun, IsFaultReported};
 
-use sa_outside::{Outage, Sink, Source, SureSink};
-use sa_trace::{Listening, Parting, hand_on};
-use sa_tree::{Pos, Sources};
+use host_io::{Outage, Sink, Source, SureSink};
+use sa_ast::{Pos, Sources};
+use sa_trace::{ErrStatus, TraceParser, write_records};
 use std::alloc::Global;
 use wa_exec::{Host, Machine};
-use wa_run::{Answer, answer_of_halt, handed_on};
+use wa_run::{Answer, answer_after_flush, answer_of_halt};
 
 /// A run that has begun: the machine, what it has put and not handed on, and what has become of its frames.
 #[derive(Drop)]
-pub(crate) struct Running {
+pub(crate) struct TracedState {
     pub(crate) machine: Machine,
     pub(crate) host: Host,
-    pub(crate) parting: Parting,
-    pub(crate) listening: Listening,
+    pub(crate) parting: TraceParser,
+    pub(crate) listening: ErrStatus,
 }
 
 /// Runs until so many steps are made in all, and hands on the frames that end there.
 pub(crate) fn stretch<I: Source, O: Sink, E: Sink>(
     alloc: Global,
-    running: &mut Running,
+    running: &mut TracedState,
     end: u64,
     positions: &[Pos],
     sources: &Sources,
@@ -36,7 +36,7 @@ pub(crate) fn stretch<I: Source, O: Sink, E: Sink>(
 ) -> Answer
     requires halt { running.old.machine.halt ≡ None }
     requires steps { running.old.machine.steps ≤ end }
-    ensures told { IsTold result (Rose (I.faults input.old) (I.faults input.new)) (Rose (O.faults out.old) (O.faults out.new)) }
+    ensures reported { IsFaultReported result (Rose (I.faults input.old) (I.faults input.new)) (Rose (O.faults out.old) (O.faults out.new)) }
     ensures runs { IsBeforeRun result → ⊥ }
     ensures within { running.new.machine.steps ≤ end }
     ensures spent { result ≡ Answer.Spent → running.new.machine.steps ≡ end }
@@ -60,7 +60,7 @@ pub(crate) fn stretch<I: Source, O: Sink, E: Sink>(
         input,
         &mut buffer,
     );
-    let told = tell(
+    let reported = tell(
         alloc,
         buffer.taken(),
         positions,
@@ -70,7 +70,7 @@ pub(crate) fn stretch<I: Source, O: Sink, E: Sink>(
         out,
         err,
     );
-    match told {
+    match reported {
         Ok(()) => answer,
         Err(outage) => match answer {
             // It came first.
@@ -94,7 +94,7 @@ fn put_until<I: Source>(
     requires halt { machine.old.halt ≡ None }
     requires steps { machine.old.steps ≤ end }
     requires empty { buffer.old ≡ [] }
-    ensures told { IsTold result (Rose (I.faults input.old) (I.faults input.new)) ⊥ }
+    ensures reported { IsFaultReported result (Rose (I.faults input.old) (I.faults input.new)) ⊥ }
     ensures runs { IsBeforeRun result → ⊥ }
     ensures within { machine.new.steps ≤ end }
     ensures spent { result ≡ Answer.Spent → machine.new.steps ≡ end }
@@ -105,7 +105,7 @@ fn put_until<I: Source>(
         → CameTo b fuel result machine.new host.new (I.input input.new) (I.ended input.new) (put ++ buffer.new) }
 {
     let halt = machine.step_until(end, host, input, buffer);
-    handed_on(answer_of_halt(halt), host, buffer)
+    answer_after_flush(answer_of_halt(halt), host, buffer)
 }
 
 /// Hands on the frames that end in these bytes.
@@ -114,8 +114,8 @@ fn tell<O: Sink, E: Sink>(
     bytes: &[u8],
     positions: &[Pos],
     sources: &Sources,
-    parting: &mut Parting,
-    listening: &mut Listening,
+    parting: &mut TraceParser,
+    listening: &mut ErrStatus,
     out: &mut O,
     err: &mut E,
 ) -> Result<(), Outage>
@@ -127,33 +127,33 @@ fn tell<O: Sink, E: Sink>(
     ensures part { OnErr result ((put : List ℕ) (out_old err_old : Taken)
         → SoFar positions.now sources.now put parting.old (sinks out_old (sink (O.output out.old) (O.faults out.old)) err_old
         (sink (E.output err.old) (E.faults err.old)) listening.old)
-        → FrontIsHandedOn positions.now sources.now (put ++ bytes.now) (sinks out_old (sink (O.output out.new) (O.faults out.new))
-        err_old (sink (E.output err.new) (E.faults err.new)) listening.new) (HearsPart Listening.Yes listening.new err_old
+        → FrontIsWritten positions.now sources.now (put ++ bytes.now) (sinks out_old (sink (O.output out.new) (O.faults out.new))
+        err_old (sink (E.output err.new) (E.faults err.new)) listening.new) (HearsPart ErrStatus.Yes listening.new err_old
         (sink (E.output err.new) (E.faults err.new)))) }
     // Where out fails, err has the whole lines.
     ensures lines { IsErrOf result Outage.Failed → (put : List ℕ) (out_old err_old : Taken)
         → SoFar positions.now sources.now put parting.old (sinks out_old (sink (O.output out.old) (O.faults out.old)) err_old
         (sink (E.output err.old) (E.faults err.old)) listening.old)
-        → FrontIsHandedOn positions.now sources.now (put ++ bytes.now) (sinks out_old (sink (O.output out.new) (O.faults out.new))
-        err_old (sink (E.output err.new) (E.faults err.new)) listening.new) (Hears Listening.Yes listening.new err_old
+        → FrontIsWritten positions.now sources.now (put ++ bytes.now) (sinks out_old (sink (O.output out.new) (O.faults out.new))
+        err_old (sink (E.output err.new) (E.faults err.new)) listening.new) (Hears ErrStatus.Yes listening.new err_old
         (sink (E.output err.new) (E.faults err.new))) }
     ensures failed { IsErrOf result Outage.Failed → Rose (O.faults out.old) (O.faults out.new) }
     ensures out { O.faults out.old ≤ O.faults out.new }
 {
     match parting.part(alloc, bytes, positions, sources) {
-        Ok(frames) => hand_on(alloc, frames.as_slice(), sources, listening, out, err),
+        Ok(frames) => write_records(alloc, frames.as_slice(), sources, listening, out, err),
         Err(_) => Err(Outage::NoMemory),
     }
 }
 
 /// Whether err still takes lines, where the input has failed and an outage came behind it.
-fn listening_behind(outage: Outage, listening: Listening) -> Listening
+fn listening_behind(outage: Outage, listening: ErrStatus) -> ErrStatus
     ensures failed { outage ≡ Outage.Failed → result ≡ listening }
-    ensures short { outage ≡ Outage.NoMemory → result ≡ Listening.NoMemory }
+    ensures short { outage ≡ Outage.NoMemory → result ≡ ErrStatus.NoMemory }
 {
     match outage {
         Outage::Failed => listening,
-        Outage::NoMemory => Listening::NoMemory,
+        Outage::NoMemory => ErrStatus::NoMemory,
     }
 }
 

@@ -1,24 +1,24 @@
 //! The run of a traced module, stretch after stretch.
 
 ghost use Rattle.std.specs.Prelude.{◌≡◌, ◌≤◌, ℕ, List, [], None, Some};
-ghost use Rattle.sa_outside.specs.Faults.{Rose};
-ghost use Rattle.sa_outside.specs.Output.{Grew};
-ghost use Rattle.sa_trace.specs.Handing.{sink};
+ghost use Rattle.host_io.specs.Faults.{Rose};
+ghost use Rattle.host_io.specs.Output.{Grew};
+ghost use Rattle.sa_trace.specs.Writing.{sink};
 ghost use Rattle.sa_trace_run.specs.Stretches.{Beginning, HasRunTo, IsUnderWay};
-ghost use Rattle.sa_trace_run.specs.Traced.{AreTold, sinks};
-ghost use Rattle.wa_run.specs.Answers.{IsBeforeRun, IsTold};
+ghost use Rattle.sa_trace_run.specs.Traced.{AreReported, sinks};
+ghost use Rattle.wa_run.specs.Answers.{IsBeforeRun, IsFaultReported};
 ghost use Rattle.wa_run.specs.Modules.{SaysOfValid};
 ghost use Rattle.wa_run.specs.Runs.{HasRunModule, streams};
 ghost use Rattle.wa_syntax.specs.Runs.{IsLinked, SegmentsFit};
 ghost use Rattle.wa_syntax.specs.ValidModule.{IsValid};
 
-use crate::stretch::{Running, stretch};
-use sa_outside::{Sink, Source};
-use sa_trace::{Listening, Parting};
-use sa_tree::{Pos, Sources};
+use crate::stretch::{TracedState, stretch};
+use host_io::{Sink, Source};
+use sa_ast::{Pos, Sources};
+use sa_trace::{ErrStatus, TraceParser};
 use std::alloc::Global;
 use wa_exec::{Host, Machine};
-use wa_run::{Answer, Run, answer_of_start};
+use wa_run::{Answer, RunResult, answer_of_start};
 use wa_valid::Valid;
 
 /// How many steps a machine makes before what it has put is parted.
@@ -27,9 +27,9 @@ const STRETCH: u64 = 4096;
 /// The run of a traced module.
 #[derive(Clone, Copy, Debug)]
 pub struct TracedRun {
-    pub run: Run,
+    pub run: RunResult,
     /// Whether err has taken all lines of the trace.
-    pub listening: Listening,
+    pub listening: ErrStatus,
 }
 
 /// Runs a valid module whose output is frames, with at most `fuel` steps, where the sites of its program have these positions. The
@@ -47,14 +47,14 @@ pub fn run_traced<I: Source, O: Sink, E: Sink>(
 ) -> TracedRun
     requires valid { IsValid «module».now }
     ensures says { SaysOfValid «module».now result.run.answer }
-    ensures told { IsTold result.run.answer (Rose (I.faults input.old) (I.faults input.new)) (Rose (O.faults out.old) (O.faults out.new)) }
+    ensures reported { IsFaultReported result.run.answer (Rose (I.faults input.old) (I.faults input.new)) (Rose (O.faults out.old) (O.faults out.new)) }
     ensures within { result.run.steps ≤ fuel }
     ensures output { Grew (O.output out.old) (O.output out.new) }
     ensures untouched { IsBeforeRun result.run.answer → (out.new ≡ out.old) × (input.new ≡ input.old) × (err.new ≡ err.old) }
     // The run is that of the standard's machine, with these bytes as its output; they are frames, and out and err took what these say.
     ensures ran { (framed : List ℕ)
         × HasRunModule «module».now fuel result.run (streams (I.input input.old) (Some [])) (streams (I.input input.new) (Some framed))
-        × AreTold positions.now sources.now framed (sinks (sink (O.output out.old) (O.faults out.old))
+        × AreReported positions.now sources.now framed (sinks (sink (O.output out.old) (O.faults out.old))
         (sink (O.output out.new) (O.faults out.new)) (sink (E.output err.old) (E.faults err.old))
         (sink (E.output err.new) (E.faults err.new)) result.listening) result.run.answer }
     // A module that is linked and whose segments fit is run.
@@ -67,11 +67,11 @@ pub fn run_traced<I: Source, O: Sink, E: Sink>(
         Ok(machine) => machine,
         Err(fault) => return unrun(answer_of_start(fault)),
     };
-    let mut running = Running {
+    let mut running = TracedState {
         machine,
         host,
-        parting: Parting::new(alloc),
-        listening: Listening::Yes,
+        parting: TraceParser::new(alloc),
+        listening: ErrStatus::Yes,
     };
     let answer = run_on(
         alloc,
@@ -84,7 +84,7 @@ pub fn run_traced<I: Source, O: Sink, E: Sink>(
         err,
     );
     TracedRun {
-        run: Run {
+        run: RunResult {
             answer,
             steps: running.machine.steps(),
             func: running.machine.halted_in(),
@@ -97,22 +97,22 @@ pub fn run_traced<I: Source, O: Sink, E: Sink>(
 fn unrun(answer: Answer) -> TracedRun
     ensures answer { result.run.answer ≡ answer }
     ensures steps { result.run.steps ≡ 0 }
-    ensures listening { result.listening ≡ Listening.Yes }
+    ensures listening { result.listening ≡ ErrStatus.Yes }
 {
     TracedRun {
-        run: Run {
+        run: RunResult {
             answer,
             steps: 0,
             func: None,
         },
-        listening: Listening::Yes,
+        listening: ErrStatus::Yes,
     }
 }
 
 /// Runs stretch after stretch, up to the end or the fuel.
 fn run_on<I: Source, O: Sink, E: Sink>(
     alloc: Global,
-    running: &mut Running,
+    running: &mut TracedState,
     fuel: u64,
     positions: &[Pos],
     sources: &Sources,
@@ -122,7 +122,7 @@ fn run_on<I: Source, O: Sink, E: Sink>(
 ) -> Answer
     requires halt { running.old.machine.halt ≡ None }
     requires first { running.old.machine.steps ≡ 0 }
-    ensures told { IsTold result (Rose (I.faults input.old) (I.faults input.new)) (Rose (O.faults out.old) (O.faults out.new)) }
+    ensures reported { IsFaultReported result (Rose (I.faults input.old) (I.faults input.new)) (Rose (O.faults out.old) (O.faults out.new)) }
     ensures runs { IsBeforeRun result → ⊥ }
     ensures within { running.new.machine.steps ≤ fuel }
     ensures ran { (b : Beginning)
@@ -130,7 +130,7 @@ fn run_on<I: Source, O: Sink, E: Sink>(
         (I.ended input.old) (sinks (sink (O.output out.old) (O.faults out.old)) (sink (O.output out.old) (O.faults out.old))
         (sink (E.output err.old) (E.faults err.old)) (sink (E.output err.old) (E.faults err.old)) running.old.listening)
         → (framed : List ℕ) × HasRunTo b fuel result running.new.machine.steps (I.input input.new) framed
-        × AreTold positions.now sources.now framed (sinks (sink (O.output out.old) (O.faults out.old))
+        × AreReported positions.now sources.now framed (sinks (sink (O.output out.old) (O.faults out.old))
         (sink (O.output out.new) (O.faults out.new)) (sink (E.output err.old) (E.faults err.old))
         (sink (E.output err.new) (E.faults err.new)) running.new.listening) result }
 {

@@ -2,11 +2,11 @@
 use Rattle.std.proofs.Common.{◌≡◌, ℕ, ◌+◌, ◌<◌, List, Some, cond, nat_eq, length, get_or, drop, sym, ap, ◌∙◌, add-one, drop-cons, suc, arith}
 use Rattle.std.specs.Cmp.Lexicographic.{pointwise}
 use Rattle.std.specs.HashMap.{HashMap, get}
-use Rattle.sa_tree.specs.declared.class.Param.{Param}
+use Rattle.sa_ast.specs.declared.class.TypeParam.{TypeParam}
 use Rattle.sa_types.specs.Substitution.{place_of, HasPlaces}
 
 -- one more parameter in front, whose name is put into the table
-pub has_places-more : {S : Type 0} (table more : HashMap (List ℕ) ℕ S) (params : List Param) (i : ℕ) (p : Param) → i < length params → p ≡ get_or params i p → HasPlaces table params (i + 1) → ((name : List ℕ) → get (pointwise nat_eq) more name ≡ cond (pointwise nat_eq p.name.name name) (Some i) (get (pointwise nat_eq) table name)) → HasPlaces more params i
+pub has_places-more : {S : Type 0} (table more : HashMap (List ℕ) ℕ S) (params : List TypeParam) (i : ℕ) (p : TypeParam) → i < length params → p ≡ get_or params i p → HasPlaces table params (i + 1) → ((name : List ℕ) → get (pointwise nat_eq) more name ≡ cond (pointwise nat_eq p.name.name name) (Some i) (get (pointwise nat_eq) table name)) → HasPlaces more params i
 has_places-more table more params i p h e known put name =
     put name ∙ ap (cond (pointwise nat_eq p.name.name name) (Some i)) (known name) ∙ sym (first name)
   where

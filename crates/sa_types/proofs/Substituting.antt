@@ -2,13 +2,13 @@
 use Rattle.std.proofs.Common.{◌≡◌, ℕ, List, Option, None, Some, map, sym, ap, ◌∙◌}
 use Rattle.std.proofs.lemmas.List.{map_more}
 use Rattle.std.specs.Option.{option_map}
-use Rattle.sa_tree.specs.declared.pos.Pos.{Pos}
-use Rattle.sa_tree.specs.declared.ty.ModeTy.{ModeTy}
-use Rattle.sa_tree.specs.declared.ty.Ty.{Ty}
-use Rattle.sa_tree.specs.declared.ty.Ty.TheOpen.{Ty-F}
-use Rattle.sa_tree.specs.declared.ty.Ty.TheFolds.{fold-roll-Ty, fold_out-ModeTy}
-use Rattle.sa_tree.specs.declared.ty.Ty.TheVariants as ty
-use Rattle.sa_tree.specs.declared.ty.Ty.TheViews.{roll-Ty, out-roll-Ty}
+use Rattle.sa_ast.specs.declared.pos.Pos.{Pos}
+use Rattle.sa_ast.specs.declared.ty.ModeTy.{ModeTy}
+use Rattle.sa_ast.specs.declared.ty.Ty.{Ty}
+use Rattle.sa_ast.specs.declared.ty.Ty.TheOpen.{Ty-F}
+use Rattle.sa_ast.specs.declared.ty.Ty.TheFolds.{fold-roll-Ty, fold_out-ModeTy}
+use Rattle.sa_ast.specs.declared.ty.Ty.TheVariants as ty
+use Rattle.sa_ast.specs.declared.ty.Ty.TheViews.{roll-Ty, out-roll-Ty}
 use Rattle.sa_types.specs.Substitution.{placed_level, placed, named, substituted_level, arg_level, substituted, substituted_arg}
 
 placed-roll : (x : Ty-F Ty ModeTy) (pos : Pos) → placed (roll-Ty x) pos ≡ placed_level x pos

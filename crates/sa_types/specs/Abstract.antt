@@ -1,7 +1,7 @@
 -- Which types are abstract.
 use Rattle.std.specs.Prelude.{Bool, false, ℕ, List, [], ◌∷◌, nat_eq}
-use Rattle.sa_tree.specs.declared.ty.Ty.{Ty}
-use Rattle.sa_tree.specs.Types.{BareTy, Named, bare}
+use Rattle.sa_ast.specs.declared.ty.Ty.{Ty}
+use Rattle.sa_ast.specs.Types.{BareTy, Named, bare}
 
 -- the first byte of a name is `$`
 abbrev pub begins_dollar : List ℕ → Bool

@@ -1,8 +1,8 @@
 -- The types of a class that is taken at types.
 use Rattle.std.specs.Prelude.{List}
-use Rattle.sa_tree.specs.declared.class.Class.{Class}
-use Rattle.sa_tree.specs.declared.ty.Ty.{Ty}
-use Rattle.sa_tree.specs.declared.ty.Ty.TheVariants as ty
+use Rattle.sa_ast.specs.declared.class.Class.{Class}
+use Rattle.sa_ast.specs.declared.ty.Ty.{Ty}
+use Rattle.sa_ast.specs.declared.ty.Ty.TheVariants as ty
 use Rattle.sa_types.specs.Substitution.{given_for, substituted}
 
 -- the type that a class is at these types

@@ -3,28 +3,28 @@ use Rattle.std.specs.Prelude.{ℕ, ◌+◌, List, [], ◌∷◌, Option, None, S
 use Rattle.std.specs.Option.{option_and_then}
 use Rattle.std.specs.Cmp.Lexicographic.{pointwise}
 use Rattle.std.specs.HashMap.{HashMap, get}
-use Rattle.sa_tree.specs.declared.class.Param.{Param}
-use Rattle.sa_tree.specs.declared.pos.Pos.{Pos}
-use Rattle.sa_tree.specs.declared.ty.ModeTy.{ModeTy}
-use Rattle.sa_tree.specs.declared.ty.Ty.{Ty}
-use Rattle.sa_tree.specs.declared.ty.Ty.TheOpen.{Ty-F, ModeTy-F}
-use Rattle.sa_tree.specs.declared.ty.Ty.TheFolds.{fold-Ty, fold-ModeTy}
-use Rattle.sa_tree.specs.declared.ty.Ty.TheVariants as ty
-use Rattle.sa_tree.specs.declared.ty.Ty.TheViews.{out-Ty}
+use Rattle.sa_ast.specs.declared.class.TypeParam.{TypeParam}
+use Rattle.sa_ast.specs.declared.pos.Pos.{Pos}
+use Rattle.sa_ast.specs.declared.ty.ModeTy.{ModeTy}
+use Rattle.sa_ast.specs.declared.ty.Ty.{Ty}
+use Rattle.sa_ast.specs.declared.ty.Ty.TheOpen.{Ty-F, ModeTy-F}
+use Rattle.sa_ast.specs.declared.ty.Ty.TheFolds.{fold-Ty, fold-ModeTy}
+use Rattle.sa_ast.specs.declared.ty.Ty.TheVariants as ty
+use Rattle.sa_ast.specs.declared.ty.Ty.TheViews.{out-Ty}
 
 -- ---- the type that is given for a parameter
 
 -- the place of the first parameter with a name, where the list begins at place i
-abbrev pub place_of : List Param → ℕ → List ℕ → Option ℕ
+abbrev pub place_of : List TypeParam → ℕ → List ℕ → Option ℕ
 place_of [] i name = None
 place_of (p ∷ more) i name = cond (pointwise nat_eq p.name.name name) (Some i) (place_of more (i + 1) name)
 
 -- the type given at the place of the first parameter with a name, if there are both
-abbrev pub given_for : List Param → List Ty → List ℕ → Option Ty
+abbrev pub given_for : List TypeParam → List Ty → List ℕ → Option Ty
 given_for params given name = option_and_then (slice_get given) (place_of params 0 name)
 
 -- a table holds the places of the parameters from a place on
-abbrev pub HasPlaces : {S : Type 0} → HashMap (List ℕ) ℕ S → List Param → ℕ → Type 0
+abbrev pub HasPlaces : {S : Type 0} → HashMap (List ℕ) ℕ S → List TypeParam → ℕ → Type 0
 HasPlaces table params from = (name : List ℕ) → get (pointwise nat_eq) table name ≡ place_of (drop from params) from name
 
 -- ---- substitution

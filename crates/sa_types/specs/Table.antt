@@ -3,8 +3,8 @@ use Rattle.std.specs.Prelude.{◌≡◌, ℕ, List, Option, nat_eq, slice_get}
 use Rattle.std.specs.Option.{option_and_then}
 use Rattle.std.specs.Cmp.Lexicographic.{pointwise}
 use Rattle.std.specs.HashMap.{get}
-use Rattle.sa_tree.specs.declared.class.Param.{Param}
-use Rattle.sa_tree.specs.declared.ty.Ty.{Ty}
+use Rattle.sa_ast.specs.declared.class.TypeParam.{TypeParam}
+use Rattle.sa_ast.specs.declared.ty.Ty.{Ty}
 use Rattle.sa_types.specs.declared.substitution.Substitution.{Substitution}
 use Rattle.sa_types.specs.Substitution.{given_for, substituted}
 
@@ -13,7 +13,7 @@ abbrev pub value_in : Substitution → List ℕ → Option Ty
 value_in s name = option_and_then (slice_get s.given.now) (get (pointwise nat_eq) s.places name)
 
 -- the substitution puts these types in place of these parameters, and this one in place of SAME
-abbrev pub IsTableFor : List Param → List Ty → Ty → Substitution → Type 0
+abbrev pub IsTableFor : List TypeParam → List Ty → Ty → Substitution → Type 0
 IsTableFor params given same s = ((name : List ℕ) → value_in s name ≡ given_for params given name) × (s.same.now ≡ same)
 
 -- a type with the substitution made in it

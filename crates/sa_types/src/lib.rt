@@ -4,5 +4,5 @@
 mod sig;
 mod substitution;
 
-pub use sig::{Instance, Sig, is_abstract};
+pub use sig::{Sig, TypeInstance, is_abstract};
 pub use substitution::{Substitution, subst, subst_types, subst_with};

@@ -3,13 +3,13 @@
 ghost use Rattle.std.specs.Prelude.{◌≡◌};
 ghost use Rattle.sa_types.specs.Abstract.{begins_dollar, is_abstract_type};
 
-use sa_tree::{Class, ModeTy, Name, Ty};
+use sa_ast::{Class, ModeTy, Name, Ty};
 use sqlite_items::Items;
 
 /// A needed instance: a type with its class, in which the parameters and SAME have been put in. That of a bound type has
 /// a reference class of the name `ROUT` or `ITER` without parameters, supertypes or features.
 #[derive(Drop)]
-pub struct Instance {
+pub struct TypeInstance {
     pub ty: Ty,
     pub class: Class,
 }
@@ -23,7 +23,7 @@ pub struct Sig {
 }
 
 /// Whether the type is abstract: its name begins with `$`.
-#[tactic(auto, using(sa_tree::proofs::BareTypes::bares), unfolding(crate::specs::Abstract::is_abstract_type))]
+#[tactic(auto, using(sa_ast::proofs::BareTypes::bares), unfolding(crate::specs::Abstract::is_abstract_type))]
 pub fn is_abstract(t: &Ty) -> bool
     ensures { result ≡ is_abstract_type t.now }
 {

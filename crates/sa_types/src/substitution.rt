@@ -8,7 +8,7 @@ ghost use Rattle.std.specs.Option.{option_copied, option_map};
 ghost use Rattle.sa_types.specs.Substitution.{HasPlaces, given_for, named, named_alone, placed, substituted, substituted_arg};
 ghost use Rattle.sa_types.specs.Table.{IsTableFor, value_in};
 
-use sa_tree::{ModeTy, Name, NoMemory, Param, Pos, Ty};
+use sa_ast::{ModeTy, Name, NoMemory, Pos, Ty, TypeParam};
 use sqlite_items::{Boxed, Items};
 use std::alloc::Global;
 use std::collections::HashMap;
@@ -28,7 +28,7 @@ impl<'a> Substitution<'a> {
     /// memory runs out.
     pub fn make(
         alloc: Global,
-        params: &[Param],
+        params: &[TypeParam],
         given: &'a [Ty],
         same: &'a Ty,
     ) -> Result<Substitution<'a>, NoMemory>
@@ -52,7 +52,7 @@ impl<'a> Substitution<'a> {
 }
 
 /// The places of the parameters by their names. Of two with one name the first counts.
-fn places_of(alloc: Global, params: &[Param]) -> Result<HashMap<Name, usize>, NoMemory>
+fn places_of(alloc: Global, params: &[TypeParam]) -> Result<HashMap<Name, usize>, NoMemory>
     ensures { IfOk result (λ table. HasPlaces table params.now 0) }
 {
     let mut places = HashMap::new(alloc);
@@ -69,7 +69,7 @@ fn places_of(alloc: Global, params: &[Param]) -> Result<HashMap<Name, usize>, No
 pub fn subst(
     alloc: Global,
     t: &Ty,
-    params: &[Param],
+    params: &[TypeParam],
     given: &[Ty],
     same: &Ty,
 ) -> Result<Ty, NoMemory>

@@ -1,9 +1,9 @@
 //! The program: the real store, streams and words for the top call.
 #![tactic(auto)]
 
-use sa_drive::{Cause, NO_MEMORY, sather};
+use host_io::{FileStore, ReadSource, Sink, WriteSink};
+use sa_driver::{Cause, NO_MEMORY, sather};
 use sa_input::InputStore;
-use sa_outside::{FileStore, ReadSource, Sink, WriteSink};
 use std::alloc::Global;
 use std::env::{self, Env};
 use std::io::{self, BufReader, ErrorKind};
@@ -12,7 +12,7 @@ use std::process::ExitCode;
 fn main(rt: HostRuntime) -> ExitCode {
     let alloc = rt.alloc();
     let mut err = WriteSink::new(rt.stderr());
-    let words = match words(&rt, alloc) {
+    let words = match arguments(&rt, alloc) {
         Ok(words) => words,
         // Words that aren't text are no command, and neither are no words.
         Err(error) if error.kind() == ErrorKind::InvalidData => Vec::new(alloc),
@@ -44,6 +44,6 @@ fn out_of_memory(err: &mut impl Sink) -> ExitCode {
 
 /// The words of the command line without the program's name. The error is `InvalidData` where one isn't UTF-8, and else want of
 /// memory.
-fn words(rt: &(impl Env + AllocGlobal), alloc: Global) -> io::Result<Vec<String>> {
+fn arguments(rt: &(impl Env + AllocGlobal), alloc: Global) -> io::Result<Vec<String>> {
     Ok(env::args(rt)?.skip(1).collect(alloc)?)
 }

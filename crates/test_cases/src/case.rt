@@ -14,13 +14,13 @@ pub struct Case {
     pub files: Vec<(String, Vec<u8>)>,
     pub words: Vec<String>,
     pub input: Vec<u8>,
-    pub failing: Failing,
-    pub wanted: Wanted,
+    pub failing: FailingCalls,
+    pub wanted: ExpectedResult,
 }
 
 /// What a call has to leave.
 #[derive(Drop)]
-pub struct Wanted {
+pub struct ExpectedResult {
     pub output: Vec<u8>,
     /// Whether a front of the output is enough.
     pub output_may_be_cut: bool,
@@ -30,7 +30,7 @@ pub struct Wanted {
 
 /// The numbers of the calls that fail, from 0.
 #[derive(Drop)]
-pub struct Failing {
+pub struct FailingCalls {
     pub store: Vec<u64>,
     pub input: Vec<u64>,
     pub output: Vec<u64>,
@@ -42,7 +42,7 @@ impl Case {
     /// has none of the forms that the README describes.
     pub fn read(alloc: Global, words: &[String], text: &str) -> Result<Case> {
         let mut parts = text.split("\n--- ");
-        let mut case = Case::told(alloc, words, parts.next().unwrap_or(""))?;
+        let mut case = Case::reported(alloc, words, parts.next().unwrap_or(""))?;
         for part in parts {
             case.read_part(alloc, part)?;
         }
@@ -62,15 +62,15 @@ impl Case {
     }
 
     /// The case that the lines before the parts tell.
-    fn told(alloc: Global, words: &[String], text: &str) -> Result<Case> {
+    fn reported(alloc: Global, words: &[String], text: &str) -> Result<Case> {
         let mut lines = text.lines();
         let mut case = Case {
             name: String::from_str(alloc, lines.next().unwrap_or(""))?,
             files: Vec::new(alloc),
             words: copied(alloc, words)?,
             input: Vec::new(alloc),
-            failing: Failing::none(alloc),
-            wanted: Wanted::nothing(alloc),
+            failing: FailingCalls::none(alloc),
+            wanted: ExpectedResult::nothing(alloc),
         };
         for line in lines {
             if !line.is_empty() && !line.starts_with('#') {
@@ -83,7 +83,7 @@ impl Case {
     fn read_line(&mut self, alloc: Global, line: &str) -> Result<()> {
         let (word, rest) = line.split_once(' ').unwrap_or((line, ""));
         match word {
-            "$" => self.words = words_of(alloc, rest)?,
+            "$" => self.words = arguments_of(alloc, rest)?,
             "input" => self.input = unescaped(alloc, rest)?,
             "fails" => self.failing.read(alloc, rest)?,
             _ => {
@@ -135,9 +135,9 @@ impl Case {
     }
 }
 
-impl Wanted {
-    fn nothing(alloc: Global) -> Wanted {
-        Wanted {
+impl ExpectedResult {
+    fn nothing(alloc: Global) -> ExpectedResult {
+        ExpectedResult {
             output: Vec::new(alloc),
             output_may_be_cut: false,
             lines: Vec::new(alloc),
@@ -184,9 +184,9 @@ impl Wanted {
     }
 }
 
-impl Failing {
-    fn none(alloc: Global) -> Failing {
-        Failing {
+impl FailingCalls {
+    fn none(alloc: Global) -> FailingCalls {
+        FailingCalls {
             store: Vec::new(alloc),
             input: Vec::new(alloc),
             output: Vec::new(alloc),
@@ -210,7 +210,7 @@ impl Failing {
 }
 
 /// The words of a command.
-pub fn words_of(alloc: Global, text: &str) -> Result<Vec<String>> {
+pub fn arguments_of(alloc: Global, text: &str) -> Result<Vec<String>> {
     let mut words = Vec::new(alloc);
     for word in text.split_ascii_whitespace() {
         words.push(String::from_utf8(unescaped(alloc, word)?)?)?;

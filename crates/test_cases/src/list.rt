@@ -1,6 +1,6 @@
 //! A file of many cases: a head, and cases that each begin with a line `=== NAME`.
 
-use crate::case::words_of;
+use crate::case::arguments_of;
 use anyhow::{Result, bail};
 use std::alloc::Global;
 
@@ -22,16 +22,16 @@ impl<'a> List<'a> {
         for piece in pieces {
             texts.push(piece)?;
         }
-        let words = words_of_head(alloc, head)?;
+        let words = arguments_of_head(alloc, head)?;
         Ok(List { words, texts })
     }
 }
 
-fn words_of_head(alloc: Global, head: &str) -> Result<Vec<String>> {
+fn arguments_of_head(alloc: Global, head: &str) -> Result<Vec<String>> {
     let mut words = Vec::new(alloc);
     for line in head.lines() {
         if let Some(command) = line.strip_prefix("$") {
-            words = words_of(alloc, command)?;
+            words = arguments_of(alloc, command)?;
         } else if !line.is_empty() && !line.starts_with("#") {
             bail!("this is no line of a head: {line}");
         }

@@ -64,7 +64,7 @@ fn run_list(rt: &(impl AllocGlobal + Print), alloc: Global, list: List<'_>) -> R
     ensure!(!list.texts.is_empty(), "the list has no cases");
     let mut right = true;
     for text in list.texts.iter() {
-        let case = Case::read(alloc, list.words.as_slice(), text)?;
+        let case = Case::read(alloc, list.arguments.as_slice(), text)?;
         let as_wanted = run_case(rt, alloc, case)?;
         right = right && as_wanted;
     }

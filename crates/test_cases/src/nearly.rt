@@ -2,8 +2,8 @@
 //! is checked, and has to be accepted, or refused at a place inside it, and nothing else.
 
 use anyhow::Result;
-use sa_drive::{Cause, sather};
-use sa_outside::{MemSink, MemSource, MemStore};
+use host_io::{MemSink, MemSource, MemStore};
+use sa_driver::{Cause, sather};
 use std::alloc::{AllocError, Global};
 
 /// The bytes that others are changed to.
@@ -14,12 +14,12 @@ pub fn try_neighbours(alloc: Global, source: &[u8]) -> Result<u64> {
     let mut failed = 0u64;
     for at in 0..source.len() {
         let (front, rest) = source.split_at(at);
-        let (byte, behind) = rest.split_at(1);
+        let (byte, following) = rest.split_at(1);
         let sign = SIGNS.get(at % SIGNS.len()).copied().unwrap_or(b' ');
         let texts = [
             joined(alloc, [front, &[], &[]])?,
-            joined(alloc, [front, &[sign], behind])?,
-            joined(alloc, [front, &[], behind])?,
+            joined(alloc, [front, &[sign], following])?,
+            joined(alloc, [front, &[], following])?,
             joined(alloc, [front, byte, rest])?,
         ];
         for text in texts {

@@ -1,11 +1,11 @@
 //! What a call leaves, compared with what its case asks for.
 
-use crate::case::{Case, Wanted};
+use crate::case::{Case, ExpectedResult};
 use anyhow::{Result, ensure};
 use bstr::BStr;
-use sa_drive::{Exit, sather};
+use host_io::{MemSink, MemSource, MemStore};
+use sa_driver::{Exit, sather};
 use sa_input::InputStore;
-use sa_outside::{MemSink, MemSource, MemStore};
 use std::alloc::Global;
 
 /// What the call of the case leaves otherwise than is wanted, or none.
@@ -41,16 +41,16 @@ pub fn difference(alloc: Global, case: Case) -> Result<Option<String>> {
 
 fn first_difference(
     alloc: Global,
-    wanted: &Wanted,
+    wanted: &ExpectedResult,
     exit: &Exit,
     output: &[u8],
     lines: &[u8],
 ) -> Result<Option<String>> {
     if !is_wanted(wanted.output.as_slice(), wanted.output_may_be_cut, output) {
-        return Ok(Some(told(alloc, "out", wanted.output.as_slice(), output)?));
+        return Ok(Some(reported(alloc, "out", wanted.output.as_slice(), output)?));
     }
     if lines != wanted.lines.as_slice() {
-        return Ok(Some(told(alloc, "err", wanted.lines.as_slice(), lines)?));
+        return Ok(Some(reported(alloc, "err", wanted.lines.as_slice(), lines)?));
     }
     let status = exit.status;
     if u64::from(status) != wanted.status {
@@ -67,7 +67,7 @@ fn is_wanted(wanted: &[u8], may_be_cut: bool, got: &[u8]) -> bool {
     got == wanted || (may_be_cut && wanted.starts_with(got))
 }
 
-fn told(alloc: Global, place: &str, wanted: &[u8], got: &[u8]) -> Result<String> {
+fn reported(alloc: Global, place: &str, wanted: &[u8], got: &[u8]) -> Result<String> {
     let wanted = BStr::new(wanted);
     let got = BStr::new(got);
     Ok(format!(in alloc; "{place} should take {wanted:?}, and it took {got:?}")?)

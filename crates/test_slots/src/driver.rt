@@ -2,9 +2,9 @@
 //! the slot back whose number is in the next two bytes. The lower byte is the first.
 
 use sa_pool::code;
-use sa_runtime::line::Op::{Br, Call, Do, Get, I32, Tee};
-use sa_runtime::parts::Part::{self, If, Line, Loop};
-use sa_runtime::parts::{Function, Working, functions};
+use sa_runtime::template_ops::Op::{Br, Call, Do, Get, I32, Tee};
+use sa_runtime::templates::Template::{self, If, Line, Loop};
+use sa_runtime::templates::{Function, LocalCounts, functions};
 use sa_runtime::trace::Tracing;
 use sqlite_items::Items;
 use std::alloc::Global;
@@ -12,7 +12,7 @@ use wa_syntax::opcode::{
     I32_ADD, I32_AND, I32_EQ, I32_EQZ, I32_SHL, I32_SHR_S, I32_SHR_U, I32_SUB,
 };
 use wa_syntax::{
-    Export, ExportKind, Func, FuncTy, Import, ImportKind, Limits, Module, Name, NoMemory, ValTy,
+    Export, ExportKind, Func, FuncTy, Import, ImportKind, Limits, Module, NoMemory, ValTy, WasmName,
 };
 
 /// The type of `get`, of `take` and of `main`.
@@ -51,7 +51,7 @@ const FIRST: u32 = BASE + 8;
 const PAGES: u32 = 3;
 
 /// The body of `main`.
-const BODY: &[Part] = &[
+const BODY: &[Template] = &[
     Loop(&[
         Line(&[Call(GET), Tee(BYTE), Do(I32_EQZ)]),
         If(&[
@@ -71,7 +71,7 @@ const BODY: &[Part] = &[
 ];
 
 /// The functions before those of the pool.
-const FUNCTIONS: [Function; 1] = [Function(GETS, Working(0, 1), BODY)];
+const FUNCTIONS: [Function; 1] = [Function(GETS, LocalCounts(0, 1), BODY)];
 
 /// The module.
 pub fn driver(alloc: Global) -> Result<Module, NoMemory> {
@@ -111,8 +111,8 @@ fn imports(alloc: Global) -> Result<Items<Import>, NoMemory> {
 
 fn import(alloc: Global, name: &[u8], ty: u32) -> Result<Import, NoMemory> {
     Ok(Import {
-        module: Name::from_slice(alloc, b"env")?,
-        name: Name::from_slice(alloc, name)?,
+        module: WasmName::from_slice(alloc, b"env")?,
+        name: WasmName::from_slice(alloc, name)?,
         kind: ImportKind::Func(ty),
     })
 }
@@ -137,7 +137,7 @@ fn memories(alloc: Global) -> Result<Items<Limits>, NoMemory> {
 fn exports(alloc: Global) -> Result<Items<Export>, NoMemory> {
     let mut exports = Items::new(alloc);
     exports.push(Export {
-        name: Name::from_slice(alloc, b"main")?,
+        name: WasmName::from_slice(alloc, b"main")?,
         kind: ExportKind::Func(MAIN),
     })?;
     Ok(exports)

@@ -7,7 +7,7 @@ mod driver;
 use anyhow::{Context, Result};
 use calls::all_calls;
 use driver::driver;
-use sa_outside::{MemSink, MemSource};
+use host_io::{MemSink, MemSource};
 use wa_encode::encode;
 use wa_run::run_bytes;
 

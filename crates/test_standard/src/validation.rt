@@ -3,7 +3,7 @@
 mod build;
 mod cases;
 
-use build::Part::{self, *};
+use build::ModuleField::{self, *};
 use cases::{BODIES, MODULES};
 use std::alloc::Global;
 use std::test::Fail;
@@ -11,7 +11,7 @@ use wa_syntax::{Init, ValTy};
 use wa_valid::{ValidFault, validate};
 
 /// What validation says of the module of these parts.
-fn verdict(alloc: Global, parts: &[Part]) -> Result<Result<(), Option<u32>>, Fail> {
+fn verdict(alloc: Global, parts: &[ModuleField]) -> Result<Result<(), Option<u32>>, Fail> {
     match validate(alloc, build::module(alloc, parts)?) {
         Ok(_) => Ok(Ok(())),
         Err(ValidFault::Invalid { func }) => Ok(Err(func)),

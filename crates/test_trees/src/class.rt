@@ -1,7 +1,7 @@
 //! Classes as text: each name with the byte where it stands, features with the number of their arguments and the forms of
 //! their statements.
 
-use sa_tree::{Class, Feature, Local, Part, Stmt};
+use sa_ast::{Class, Feature, FeatureBody, Local, Stmt};
 use std::alloc::AllocError;
 use std::fmt::Write;
 
@@ -34,7 +34,7 @@ fn stmt(out: &mut String, stmt: &Stmt) -> Result<(), AllocError> {
         Stmt::Quit(pos) => (" quit", *pos),
         Stmt::Raise(_, pos) => (" raise", *pos),
         Stmt::Assert(_, pos) => (" assert", *pos),
-        Stmt::Do(_) => return out.push_str(" do"),
+        Stmt::ExprStmt(_) => return out.push_str(" do"),
     };
     out.push_str(word)?;
     place(out, pos.at)
@@ -43,13 +43,13 @@ fn stmt(out: &mut String, stmt: &Stmt) -> Result<(), AllocError> {
 /// The name of the feature, the number of a constant, the number of arguments, the place, and the statements.
 fn feature(out: &mut String, feature: &Feature) -> Result<(), AllocError> {
     local(out, &feature.name)?;
-    if let Part::Const(_, number) = &feature.part {
+    if let FeatureBody::Const(_, number) = &feature.part {
         write!(out, "+{number}")?;
     }
     let formals = feature.formals.len();
     write!(out, "/{formals}")?;
     place(out, feature.name.pos.at)?;
-    if let Part::Routine(body) = &feature.part {
+    if let FeatureBody::Routine(body) = &feature.part {
         let stmts = body.get().as_slice();
         if !stmts.is_empty() {
             out.push(':')?;

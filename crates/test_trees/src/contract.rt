@@ -1,7 +1,7 @@
 //! Contracts as text: the places of the class and the feature, and each condition as a tree, with the byte where it stands.
 
 use crate::expr::Printer;
-use sa_tree::{Condition, Contract};
+use sa_ast::{Condition, Contract};
 use std::alloc::AllocError;
 use std::fmt::Write;
 

@@ -1,6 +1,6 @@
 //! Expressions as text: each form in parentheses, with the byte where it stands.
 
-use sa_tree::{Expr, Given, Mode, ModeTy, Name, Pos, Recv, Ty};
+use sa_ast::{Expr, ExprArg, ExprReceiver, Mode, ModeTy, Name, Pos, Ty};
 use sqlite_items::Boxed;
 use std::alloc::AllocError;
 use std::fmt::Write;
@@ -116,7 +116,7 @@ impl Printer {
                 self.text.push('"')?;
                 self.name(text, *pos)
             }
-            Expr::Me(pos) => self.word("self", *pos),
+            Expr::SelfRef(pos) => self.word("self", *pos),
             Expr::Void(pos) => self.word("void", *pos),
             Expr::IsVoid(of, pos) => self.form("(void", *pos, of),
             Expr::Exception(pos) => self.word("exception", *pos),
@@ -185,14 +185,14 @@ impl Printer {
     }
 
     #[cycle(show_expr)]
-    fn on(&mut self, on: &Recv) -> Result<(), AllocError> {
+    fn on(&mut self, on: &ExprReceiver) -> Result<(), AllocError> {
         match on {
-            Recv::Implied => Ok(()),
-            Recv::Of(of) => {
+            ExprReceiver::Implied => Ok(()),
+            ExprReceiver::Of(of) => {
                 self.text.push_str(" .")?;
                 self.operand(of)
             }
-            Recv::OfClass(ty) => {
+            ExprReceiver::OfClass(ty) => {
                 self.text.push_str(" :: ")?;
                 self.ty(ty)
             }
@@ -200,14 +200,14 @@ impl Printer {
     }
 
     #[cycle(show_expr)]
-    fn args(&mut self, all: &[Given]) -> Result<(), AllocError> {
+    fn args(&mut self, all: &[ExprArg]) -> Result<(), AllocError> {
         for arg in all {
             match arg {
-                Given::Value(mode, e) => {
+                ExprArg::Value(mode, e) => {
                     self.mode(*mode)?;
                     self.expr(e)?;
                 }
-                Given::Left(ty, pos) => {
+                ExprArg::Unbound(ty, pos) => {
                     self.word(" (_", *pos)?;
                     self.type_or_none(ty)?;
                     self.close()?;

@@ -4,7 +4,7 @@
 #![tactic(auto)]
 
 ghost use Rattle.std.specs.Prelude.{◌<◌, All, IfOk, length, vec_len};
-ghost use Rattle.sa_lex.specs.Token.{IsWithin};
+ghost use Rattle.sa_lexer.specs.Token.{IsWithin};
 
 mod class;
 mod contract;
@@ -12,10 +12,10 @@ mod expr;
 
 use crate::expr::Printer;
 use anyhow::{Context, Result};
-use sa_lex::{Token, lex};
-use sa_parse::{FileKind, parse};
-use sa_parse_expr::{Scope, condition, scan};
-use sa_tree::{Expr, FrontFault};
+use sa_ast::{Expr, Rejection};
+use sa_lexer::{Token, lex};
+use sa_parser::{FileKind, parse};
+use sa_parser_expr::{ConditionScope, condition, scan};
 use std::alloc::{AllocError, Global};
 use std::fmt::Write;
 use std::fs::{self, Files};
@@ -46,47 +46,54 @@ fn main(rt: HostRuntime) -> Result<()> {
 }
 
 /// What was shown, or the rule that the source breaks and the byte where.
-fn answer(alloc: Global, shown: Result<String, FrontFault>) -> Result<String, AllocError> {
+fn answer(alloc: Global, shown: Result<String, Rejection>) -> Result<String, AllocError> {
     match shown {
         Ok(text) => Ok(text),
-        Err(FrontFault::Refused(refusal)) => {
+        Err(Rejection::Refused(refusal)) => {
             let rule = refusal.rule;
             let at = refusal.pos.at;
             format!(in alloc; " {rule} at {at}")
         }
-        Err(FrontFault::NoMemory) => Err(AllocError),
+        Err(Rejection::NoMemory) => Err(AllocError),
     }
 }
 
 /// The tokens of a source, which a parser may go over.
-#[tactic(auto, using(sa_lex::proofs::TokenLists::within))]
-fn tokens_of(alloc: Global, src: &[u8]) -> Result<Vec<Token>, FrontFault>
+#[tactic(auto, using(sa_lexer::proofs::TokenLists::within))]
+fn tokens_of(alloc: Global, src: &[u8]) -> Result<Vec<Token>, Rejection>
     ensures within { IfOk result (λ tokens. All (IsWithin src.now) tokens.items) }
     ensures few { IfOk result (λ tokens. vec_len tokens < LONGEST) }
     ensures short { IfOk result (λ _. length src.now < LONGEST) }
 {
     if src.len() >= LONGEST {
-        return Err(FrontFault::NoMemory);
+        return Err(Rejection::NoMemory);
     }
     let tokens = lex(alloc, src, 1)?;
     if tokens.len() >= LONGEST {
-        return Err(FrontFault::NoMemory);
+        return Err(Rejection::NoMemory);
     }
     scan(alloc, tokens.as_slice(), 1)?;
     Ok(tokens)
 }
 
 /// A source's first expression, and the number of its tokens.
-fn shown_expression(alloc: Global, src: &[u8]) -> Result<String, FrontFault> {
+fn shown_expression(alloc: Global, src: &[u8]) -> Result<String, Rejection> {
     let tokens = tokens_of(alloc, src)?;
-    let (e, next) = sa_parse_expr::expr(alloc, tokens.as_slice(), src, 1, 0)?;
+    let (e, next) = sa_parser_expr::expr(alloc, tokens.as_slice(), src, 1, 0)?;
     Ok(tree(alloc, &e, next)?)
 }
 
 /// A source's first condition of a `post`, and the number of its tokens.
-fn shown_condition(alloc: Global, src: &[u8]) -> Result<String, FrontFault> {
+fn shown_condition(alloc: Global, src: &[u8]) -> Result<String, Rejection> {
     let tokens = tokens_of(alloc, src)?;
-    let (e, next) = condition(alloc, tokens.as_slice(), src, 1, Scope::PostClause, 0)?;
+    let (e, next) = condition(
+        alloc,
+        tokens.as_slice(),
+        src,
+        1,
+        ConditionScope::PostClause,
+        0,
+    )?;
     Ok(tree(alloc, &e, next)?)
 }
 
@@ -102,7 +109,7 @@ fn tree(alloc: Global, e: &Expr, next: u32) -> Result<String, AllocError> {
 }
 
 /// The classes of a source, each with its features, and their contracts.
-fn shown_file(alloc: Global, src: &[u8]) -> Result<String, FrontFault> {
+fn shown_file(alloc: Global, src: &[u8]) -> Result<String, Rejection> {
     let tokens = tokens_of(alloc, src)?;
     let parsed = parse(alloc, tokens.as_slice(), src, 1, FileKind::Program, 0)?;
     let mut printer = Printer {

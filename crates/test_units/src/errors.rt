@@ -1,16 +1,16 @@
-//! What the errors of `sa_tree` print.
+//! What the errors of `sa_ast` print.
 
-use sa_tree::{FrontFault, NoMemory, Pos, Rule};
+use sa_ast::{NoMemory, Pos, Rejection, Rule};
 use std::alloc::AllocError;
 
 #[test]
 fn an_error_prints_its_cause(rt: HostRuntime) -> Result<(), AllocError> {
     let alloc = rt.alloc();
     let pos = Pos { file: 1, at: 0 };
-    let refused = FrontFault::Refused(Rule::NestedTooDeep.at(pos));
+    let refused = Rejection::Refused(Rule::NestedTooDeep.at(pos));
     assert_eq!(rt; refused.to_string(alloc)?.as_str(), "E07: nested too deep");
     assert_eq!(rt;
-        FrontFault::NoMemory.to_string(alloc)?.as_str(),
+        Rejection::NoMemory.to_string(alloc)?.as_str(),
         "out of memory"
     );
     assert_eq!(rt; NoMemory.to_string(alloc)?.as_str(), "out of memory");

@@ -10,7 +10,7 @@ mod files;
 #[cfg(test)]
 mod graphs;
 #[cfg(test)]
-mod kept_variables;
+mod saved_variables;
 #[cfg(test)]
 mod streams;
 #[cfg(test)]

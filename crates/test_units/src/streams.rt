@@ -1,6 +1,6 @@
 //! A source and a sink over a stream that gives and takes a byte a call, is interrupted, and fails.
 
-use sa_outside::{Outage, ReadSource, Sink, Source, Take, WriteSink};
+use host_io::{Outage, ReadSource, Sink, Source, Take, WriteSink};
 use std::io::{self, ErrorKind, Read, Write};
 use std::test::Fail;
 

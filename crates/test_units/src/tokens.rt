@@ -2,8 +2,8 @@
 
 ghost use Rattle.std.specs.Prelude.{◌<◌, length};
 
-use sa_lex::{TokenKind, lex};
-use sa_tree::FrontFault;
+use sa_ast::Rejection;
+use sa_lexer::{TokenKind, lex};
 use std::alloc::{AllocError, Global};
 use std::fmt::Write;
 use std::process::Abort;
@@ -222,12 +222,12 @@ fn shown(alloc: Global, text: &[u8]) -> Result<String, AllocError>
                 write!(line, " {start}..{end}")?;
             }
         }
-        Err(FrontFault::Refused(refusal)) => {
+        Err(Rejection::Refused(refusal)) => {
             let rule = refusal.rule;
             let at = refusal.pos.at;
             write!(line, "{rule} at {at}")?;
         }
-        Err(FrontFault::NoMemory) => line.push_str("no memory")?,
+        Err(Rejection::NoMemory) => line.push_str("no memory")?,
     }
     Ok(line)
 }

@@ -30,8 +30,8 @@ the_first {bytes = bytes} {at = at} {to = to} w first h s =
     let after = after_read {w = c.0} h (first_byte w first s) in
     subst (λ (b : ℕ). Starts b (slice_range bytes at to)) (sym after.0) c.1
 
-behind_first : {U V : Type 0} {F : V → Format} {A : U → Format} {con : U → V} {bytes : List ℕ} {at mid to k : ℕ} (b : ℕ) (w : V) (first : HasFirst F) → Arm F A b con → Reads byte bytes at (Ok (k, mid)) → k ≡ b → Spelled (F w) bytes at to → (u : U) × (w ≡ con u) × Spelled (A u) bytes mid to
-behind_first {A = A} {bytes = bytes} {at = at} {mid = mid} {to = to} b w first arm h is s =
+following_first : {U V : Type 0} {F : V → Format} {A : U → Format} {con : U → V} {bytes : List ℕ} {at mid to k : ℕ} (b : ℕ) (w : V) (first : HasFirst F) → Arm F A b con → Reads byte bytes at (Ok (k, mid)) → k ≡ b → Spelled (F w) bytes at to → (u : U) × (w ≡ con u) × Spelled (A u) bytes mid to
+following_first {A = A} {bytes = bytes} {at = at} {mid = mid} {to = to} b w first arm h is s =
     let starts = subst (λ (c : ℕ). Starts c (slice_range bytes at to)) is (the_first w first h s) in
     let only = arm.only w (slice_range bytes at to) s.spelling starts in
     let whole : Spelled (byte b then A only.0) bytes at to = record { forward = s.forward; within = s.within; spelling = only.2 } in
@@ -44,17 +44,17 @@ arm-ok {F = F} {A = A} {bytes = bytes} {at = at} {mid = mid} {end = end} {u = u}
     record {
       found = record { forward = whole.forward; within = whole.within; spelling = arm.into u (slice_range bytes at end) whole.spelling };
       complete = λ w to s.
-          let behind = behind_first b w first arm h is s in
-          let same = same_read {w = behind.0} read behind.2 in
-          (ap con same.0 ∙ sym behind.1, same.1);
+          let following = following_first b w first arm h is s in
+          let same = same_read {w = following.0} read following.2 in
+          (ap con same.0 ∙ sym following.1, same.1);
     }
 
 pub arm-err : {U V : Type 0} {F : V → Format} {A : U → Format} {bytes : List ℕ} {at mid k : ℕ} {e : DecodeFault} (b : ℕ) (con : U → V) → HasFirst F → Arm F A b con → Reads byte bytes at (Ok (k, mid)) → k ≡ b → Reads A bytes mid (Err e) → Reads F bytes at (Err e)
 arm-err b con first arm h is read = record {
   found = tt;
   complete = λ w to s.
-      let behind = behind_first b w first arm h is s in
-      none_read {w = behind.0} read behind.2;
+      let following = following_first b w first arm h is s in
+      none_read {w = following.0} read following.2;
 }
 
 pub arms-none : {V : Type 0} {F : V → Format} {bytes : List ℕ} {at mid k : ℕ} → HasFirst F → Reads byte bytes at (Ok (k, mid)) → ((w : V) (s : List ℕ) → F w s → Starts k s → ⊥) → Reads F bytes at (Err Malformed)

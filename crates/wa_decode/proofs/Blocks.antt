@@ -12,9 +12,9 @@ use Rattle.wa_syntax.specs.BinaryInstructions.{blocktype, conditional, instr_ove
 use Rattle.wa_syntax.specs.Formats.{Format, ◌then◌, each, byte}
 use Rattle.wa_decode.specs.declared.fault.DecodeFault.{DecodeFault}
 use Rattle.wa_decode.specs.declared.fault.DecodeFault.TheVariants.{NoMemory, Malformed}
-use Rattle.wa_decode.specs.Reading.{Spelled, Reads, ReadsUpTo, Passes, Stops, behind}
+use Rattle.wa_decode.specs.Reading.{Spelled, Reads, ReadsUpTo, Passes, Stops, following}
 use Rattle.wa_decode.proofs.Arms.{Arm, HasFirst, first_byte}
-use Rattle.wa_decode.proofs.Layers.{kind_of, behind-none, behind_byte, instr-from, into-plain, no_more}
+use Rattle.wa_decode.proofs.Layers.{kind_of, following-none, behind_byte, instr-from, into-plain, no_more}
 use Rattle.wa_decode.proofs.OneInstruction.{number, Stands, StopsAt, first_of, the_end, else_end, conditional-parts, instr-goes_on}
 use Rattle.wa_decode.proofs.Places.{join, split, slice_range-append, byte_only, slice_get-get_or}
 use Rattle.wa_decode.proofs.Reading.{pair, same_pair, after_read, as-ok, as-err}
@@ -27,7 +27,7 @@ first_slice : (bytes : List ℕ) (at mid end op : ℕ) → Spelled (byte op) byt
 first_slice bytes at mid end op h forward =
     slice_range-append bytes at mid end h.forward forward ∙ ap (λ (front : List ℕ). front ++ slice_range bytes mid end) h.spelling
 
-left_behind : {V : Type 0} {F : V → Format} {bytes : List ℕ} {at mid to op : ℕ} (w : V) → HasFirst F → Reads byte bytes at (Ok (op, mid)) → Spelled (F w) bytes at to → Spelled (behind op F w) bytes mid to
+left_behind : {V : Type 0} {F : V → Format} {bytes : List ℕ} {at mid to op : ℕ} (w : V) → HasFirst F → Reads byte bytes at (Ok (op, mid)) → Spelled (F w) bytes at to → Spelled (following op F w) bytes mid to
 left_behind {F = F} {bytes = bytes} {at = at} {mid = mid} {to = to} {op = op} w first h s =
     let c = first w (slice_range bytes at to) s.spelling in
     let rest = (after_read {w = c.0} h (first_byte w first s)).1 in
@@ -37,7 +37,7 @@ left_behind {F = F} {bytes = bytes} {at = at} {mid = mid} {to = to} {op = op} w 
       spelling = subst (F w) (first_slice bytes at mid to op h.found rest.forward) s.spelling;
     }
 
-pub opcode-ok : {V : Type 0} {F : V → Format} {bytes : List ℕ} {at mid end op : ℕ} {v : V} → HasFirst F → Reads byte bytes at (Ok (op, mid)) → Reads (behind op F) bytes mid (Ok (v, end)) → Reads F bytes at (Ok (v, end))
+pub opcode-ok : {V : Type 0} {F : V → Format} {bytes : List ℕ} {at mid end op : ℕ} {v : V} → HasFirst F → Reads byte bytes at (Ok (op, mid)) → Reads (following op F) bytes mid (Ok (v, end)) → Reads F bytes at (Ok (v, end))
 opcode-ok {F = F} {bytes = bytes} {at = at} {mid = mid} {end = end} {op = op} {v = v} first h k = record {
   found = record {
     forward = omega (arith, h.found.forward, k.found.forward);
@@ -47,13 +47,13 @@ opcode-ok {F = F} {bytes = bytes} {at = at} {mid = mid} {end = end} {op = op} {v
   complete = λ w to s. k.complete w to (left_behind w first h s);
 }
 
-pub opcode-err : {V : Type 0} {F : V → Format} {bytes : List ℕ} {at mid op : ℕ} {e : DecodeFault} → HasFirst F → Reads byte bytes at (Ok (op, mid)) → Reads (behind op F) bytes mid (Err e) → Reads F bytes at (Err e)
+pub opcode-err : {V : Type 0} {F : V → Format} {bytes : List ℕ} {at mid op : ℕ} {e : DecodeFault} → HasFirst F → Reads byte bytes at (Ok (op, mid)) → Reads (following op F) bytes mid (Err e) → Reads F bytes at (Err e)
 opcode-err first h k = record { found = tt; complete = λ w to s. k.complete w to (left_behind w first h s) }
 
 -- whatever was read behind it
-pub opcode-any : {V : Type 0} {F : V → Format} {bytes : List ℕ} {at mid op : ℕ} {r : Result (V × ℕ) DecodeFault} → HasFirst F → Reads byte bytes at (Ok (op, mid)) → Reads (behind op F) bytes mid r → Reads F bytes at r
+pub opcode-any : {V : Type 0} {F : V → Format} {bytes : List ℕ} {at mid op : ℕ} {r : Result (V × ℕ) DecodeFault} → HasFirst F → Reads byte bytes at (Ok (op, mid)) → Reads (following op F) bytes mid r → Reads F bytes at r
 opcode-any {F = F} {bytes = bytes} {at = at} {mid = mid} {op = op} {r = r} first h k = record {
-  found = IfOk-weaker r (λ read. Spelled (behind op F read.0) bytes mid read.1) (λ read. Spelled (F read.0) bytes at read.1)
+  found = IfOk-weaker r (λ read. Spelled (following op F read.0) bytes mid read.1) (λ read. Spelled (F read.0) bytes at read.1)
       (λ read s.
       record {
         forward = omega (arith, h.found.forward, s.forward);
@@ -152,19 +152,19 @@ arm-If Body = record { into = λ u s h. conditional-whole Body u.0 u.1.0 u.1.1 s
 
 -- ---- one level less within
 
-pub level-ok : {bytes : List ℕ} {at end op : ℕ} (levels : ℕ) (layer : Instr-F Instr) (i : Instr) → 0 < levels → roll-Instr layer ≡ i → Reads (behind op (instr_over (each (instr (levels - 1))))) bytes at (Ok (layer, end)) → Reads (behind op (instr levels)) bytes at (Ok (i, end))
+pub level-ok : {bytes : List ℕ} {at end op : ℕ} (levels : ℕ) (layer : Instr-F Instr) (i : Instr) → 0 < levels → roll-Instr layer ≡ i → Reads (following op (instr_over (each (instr (levels - 1))))) bytes at (Ok (layer, end)) → Reads (following op (instr levels)) bytes at (Ok (i, end))
 unfolding instr
 level-ok zero layer i some is h = absurd (omega arith)
 level-ok {bytes = bytes} {at = at} {end = end} {op = op} (suc levels) layer i some is h =
     let less : suc levels - 1 ≡ levels = omega arith in
-    instr-from (each (instr levels)) layer i is (subst (λ (n : ℕ). Reads (behind op (instr_over (each (instr n)))) bytes at (Ok (layer, end))) less h)
+    instr-from (each (instr levels)) layer i is (subst (λ (n : ℕ). Reads (following op (instr_over (each (instr n)))) bytes at (Ok (layer, end))) less h)
 
-pub level-err : {bytes : List ℕ} {at op : ℕ} {e : DecodeFault} (levels : ℕ) → 0 < levels → Reads (behind op (instr_over (each (instr (levels - 1))))) bytes at (Err e) → Reads (behind op (instr levels)) bytes at (Err e)
+pub level-err : {bytes : List ℕ} {at op : ℕ} {e : DecodeFault} (levels : ℕ) → 0 < levels → Reads (following op (instr_over (each (instr (levels - 1))))) bytes at (Err e) → Reads (following op (instr levels)) bytes at (Err e)
 unfolding instr
 level-err zero some h = absurd (omega arith)
 level-err {bytes = bytes} {at = at} {op = op} {e = e} (suc levels) some h =
     let less : suc levels - 1 ≡ levels = omega arith in
-    as-err out-Instr (λ v s k. k) (subst (λ (n : ℕ). Reads (behind op (instr_over (each (instr n)))) bytes at (Err e)) less h)
+    as-err out-Instr (λ v s k. k) (subst (λ (n : ℕ). Reads (following op (instr_over (each (instr n)))) bytes at (Err e)) less h)
 
 -- ---- where instructions stop
 
@@ -202,10 +202,10 @@ no_block layer op s from to h = absurd (omega arith)
 opening : (op : ℕ) → 0x02 ≤ op → op ≤ 0x04 → Stands op op
 opening op from to = inr (inr (refl, inl (from, omega (arith, to))))
 
-pub level-none : {bytes : List ℕ} {at op : ℕ} (levels : ℕ) → levels ≡ 0 → 0x02 ≤ op → op ≤ 0x04 → Reads (behind op (instr levels)) bytes at (Err Malformed)
+pub level-none : {bytes : List ℕ} {at op : ℕ} (levels : ℕ) → levels ≡ 0 → 0x02 ≤ op → op ≤ 0x04 → Reads (following op (instr levels)) bytes at (Err Malformed)
 unfolding instr
 level-none {op = op} zero is from to =
-    behind-none (instr zero) (λ w s h.
+    following-none (instr zero) (λ w s h.
     let kind : number (out-Instr w) ≡ op = kind_of (λ body bytes. ⊥) (out-Instr w) op op (op ∷ s) (opening op from to) h (s, refl) in
     no_block (out-Instr w) op s (omega arith) (omega arith) h)
 level-none (suc levels) is from to = absurd (omega arith)
@@ -239,7 +239,7 @@ structured-parts Body (Instr-F.If t branches) op s from to h =
     ((t, branches), behind_byte 0x04 op s (conditional-parts Body t branches.0 branches.1 (op ∷ s) h))
 structured-parts Body layer op s from to h = absurd (omega arith)
 
-pub structured-err : {bytes : List ℕ} {at op : ℕ} {e : DecodeFault} (Body : List Instr → Format) → 0x02 ≤ op → op ≤ 0x04 → Reads (pair blocktype (pair Body (else_end Body))) bytes at (Err e) → Reads (behind op (instr_over Body)) bytes at (Err e)
+pub structured-err : {bytes : List ℕ} {at op : ℕ} {e : DecodeFault} (Body : List Instr → Format) → 0x02 ≤ op → op ≤ 0x04 → Reads (pair blocktype (pair Body (else_end Body))) bytes at (Err e) → Reads (following op (instr_over Body)) bytes at (Err e)
 structured-err {bytes = bytes} {at = at} {op = op} Body from to h = record {
   found = tt;
   complete = λ w last s.

@@ -4,7 +4,7 @@ use Rattle.std.proofs.lemmas.List.{append-nil, length-append, length-map, take_m
 use Rattle.std.proofs.Math.Seq.{take-length}
 use Rattle.std.specs.Prelude.{Ok, Err}
 use Rattle.wa_syntax.specs.declared.instr.Instr.{Instr}
-use Rattle.wa_syntax.specs.declared.locals.Run.{Run}
+use Rattle.wa_syntax.specs.declared.locals.LocalRun.{LocalRun}
 use Rattle.wa_syntax.specs.declared.module.Func.{Func}
 use Rattle.wa_syntax.specs.declared.module.ValTy.{ValTy}
 use Rattle.wa_syntax.specs.Binary.{run, locals, code}
@@ -22,12 +22,12 @@ use Rattle.wa_decode.proofs.Vectors.{Behind, Row, row-none, row-more, vec-ok, ve
 -- ---- runs of locals
 
 pub run-ok : {bytes : List ℕ} {at end : ℕ} (count : ℕ) (ty : ValTy) → Reads (pair u32 valtype) bytes at (Ok ((count, ty), end)) → Reads run bytes at (Ok (record { count = count; ty = ty }, end))
-run-ok count ty = as-ok (λ (p : ℕ × ValTy). record { count = p.0; ty = p.1 }) (λ (r : Run). (r.count, r.ty)) (λ r. refl) (λ r s h. h) (λ h. h)
+run-ok count ty = as-ok (λ (p : ℕ × ValTy). record { count = p.0; ty = p.1 }) (λ (r : LocalRun). (r.count, r.ty)) (λ r. refl) (λ r s h. h) (λ h. h)
 
 pub run-err : {bytes : List ℕ} {at : ℕ} {e : DecodeFault} → Reads (pair u32 valtype) bytes at (Err e) → Reads run bytes at (Err e)
-run-err = as-err (λ (r : Run). (r.count, r.ty)) (λ r s h. h)
+run-err = as-err (λ (r : LocalRun). (r.count, r.ty)) (λ r s h. h)
 
-types_of_runs-more : (runs : List Run) (r : Run) → types_of_runs (runs ++ r ∷ []) ≡ types_of_runs runs ++ replicate r.count r.ty
+types_of_runs-more : (runs : List LocalRun) (r : LocalRun) → types_of_runs (runs ++ r ∷ []) ≡ types_of_runs runs ++ replicate r.count r.ty
 types_of_runs-more [] r = append-nil (replicate r.count r.ty)
 types_of_runs-more (q ∷ runs) r =
     ap (λ (rest : List ValTy). replicate q.count q.ty ++ rest) (types_of_runs-more runs r)
@@ -35,35 +35,35 @@ types_of_runs-more (q ∷ runs) r =
 
 -- of so many runs, the first were read, up to a place, and stand for these types
 pub record RunsRow (bytes : List ℕ) (start count : ℕ) (types : List ValTy) (read at : ℕ) : Type 0 where
-  pub runs : List Run
+  pub runs : List LocalRun
   pub long : length runs ≡ read
-  pub stand : types_of_runs runs ≡ types
+  pub denoted : types_of_runs runs ≡ types
   pub row : Row run bytes start count runs at
 
 pub runs-none : (bytes : List ℕ) (start count : ℕ) → start ≤ length bytes → RunsRow bytes start count [] 0 start
-runs-none bytes start count within = record { runs = []; long = refl; stand = refl; row = row-none run bytes start count within }
+runs-none bytes start count within = record { runs = []; long = refl; denoted = refl; row = row-none run bytes start count within }
 
-pub runs-more : {bytes : List ℕ} {start count : ℕ} {types : List ValTy} {read at next : ℕ} {r : Run} → read < count → RunsRow bytes start count types read at → Reads run bytes at (Ok (r, next)) → RunsRow bytes start count (types ++ replicate r.count r.ty) (read + 1) next
+pub runs-more : {bytes : List ℕ} {start count : ℕ} {types : List ValTy} {read at next : ℕ} {r : LocalRun} → read < count → RunsRow bytes start count types read at → Reads run bytes at (Ok (r, next)) → RunsRow bytes start count (types ++ replicate r.count r.ty) (read + 1) next
 runs-more {r = r} few row h = record {
   runs = row.runs ++ r ∷ [];
   long = omega (arith, length-append row.runs (r ∷ []), row.long);
-  stand = types_of_runs-more row.runs r ∙ ap (λ (front : List ValTy). front ++ replicate r.count r.ty) row.stand;
+  denoted = types_of_runs-more row.runs r ∙ ap (λ (front : List ValTy). front ++ replicate r.count r.ty) row.denoted;
   row = row-more (omega (arith, row.long)) row.row h;
 }
 
-runs-as : (types : List ValTy) (runs : List Run) (s : List ℕ) → types_of_runs runs ≡ types → vec run runs s → runs_of types s
-runs-as types runs s stand h = (runs, stand, h)
+runs-as : (types : List ValTy) (runs : List LocalRun) (s : List ℕ) → types_of_runs runs ≡ types → vec run runs s → runs_of types s
+runs-as types runs s denoted h = (runs, denoted, h)
 
 pub runs-ok : {bytes : List ℕ} {from start count read at : ℕ} {types : List ValTy} → Reads u32 bytes from (Ok (count, start)) → read ≡ count → RunsRow bytes start count types read at → Reads runs_of bytes from (Ok (types, at))
 runs-ok {bytes = bytes} {from = from} {at = at} {types = types} h done row =
     let whole : Reads (vec run) bytes from (Ok (row.runs, at)) = vec-ok h (row.long ∙ done) row.row in
     record {
-      found = record { forward = whole.found.forward; within = whole.found.within; spelling = runs-as types row.runs (slice_range bytes from at) row.stand whole.found.spelling };
+      found = record { forward = whole.found.forward; within = whole.found.within; spelling = runs-as types row.runs (slice_range bytes from at) row.denoted whole.found.spelling };
       complete = λ w to s.
-          let runs : List Run = s.spelling.0 in
-          let stand : types_of_runs runs ≡ w = s.spelling.1 in
+          let runs : List LocalRun = s.spelling.0 in
+          let denoted : types_of_runs runs ≡ w = s.spelling.1 in
           let same = whole.complete runs to (record { forward = s.forward; within = s.within; spelling = s.spelling.2 }) in
-          (sym row.stand ∙ ap types_of_runs same.0 ∙ stand, same.1);
+          (sym row.denoted ∙ ap types_of_runs same.0 ∙ denoted, same.1);
     }
 
 runs-unread : {bytes : List ℕ} {from : ℕ} {e : DecodeFault} → Reads (vec run) bytes from (Err e) → Reads runs_of bytes from (Err e)
@@ -188,8 +188,8 @@ codes-more {bytes = bytes} {start = start} {at = at} {next = next} {types = type
       numbers = map-more funcs f ∙ ap (λ (n : ℕ). types_of funcs ++ n ∷ []) number ∙ ap (λ (front : List ℕ). front ++ get_or types (length funcs) d ∷ []) row.numbers ∙ sym (take_more types (length funcs) d few) ∙ ap (λ (n : ℕ). take n types) (sym long);
       found = each-more code bytes start at next funcs f code_here.within row.found code_here;
       complete = λ all end same s.
-          let behind = row.complete all end same s in
-          code_behind bytes at next end (get_or types i d) types funcs f all behind.rest few (next_there types i (length funcs) d here within) same behind.whole behind.spelled h;
+          let following = row.complete all end same s in
+          code_behind bytes at next end (get_or types i d) types funcs f all following.rest few (next_there types i (length funcs) d here within) same following.whole following.spelled h;
     }
 
 -- no other is
@@ -209,8 +209,8 @@ codes-err {bytes = bytes} {at = at} {types = types} {funcs = funcs} {e = e} i d 
   found = tt;
   complete = λ all end s.
       let after = after_read {w = length all} counted (codes_vec types all s) in
-      let behind = row.complete all end s.spelling.0 after.1 in
-      code_unread bytes at end (get_or types i d) types funcs all behind.rest e (omega (arith, here, within)) (next_there types i (length funcs) d here within) s.spelling.0 behind.whole behind.spelled h;
+      let following = row.complete all end s.spelling.0 after.1 in
+      code_unread bytes at end (get_or types i d) types funcs all following.rest e (omega (arith, here, within)) (next_there types i (length funcs) d here within) s.spelling.0 following.whole following.spelled h;
 }
 
 pub codes-uncounted : {bytes : List ℕ} {from : ℕ} {e : DecodeFault} (types : List ℕ) → Reads u32 bytes from (Err e) → Reads (codes_of types) bytes from (Err e)
@@ -245,6 +245,6 @@ codes-ok {bytes = bytes} {from = from} {start = start} {at = at} {types = types}
       };
       complete = λ all end s.
           let after = after_read {w = length all} h (codes_vec types all s) in
-          let behind = row.complete all end s.spelling.0 after.1 in
-          codes_behind bytes at end funcs all behind.rest (long ∙ sym counted ∙ after.0) behind.whole behind.spelled;
+          let following = row.complete all end s.spelling.0 after.1 in
+          codes_behind bytes at end funcs all following.rest (long ∙ sym counted ∙ after.0) following.whole following.spelled;
     }

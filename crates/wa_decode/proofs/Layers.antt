@@ -10,9 +10,9 @@ use Rattle.wa_syntax.specs.BinaryInstructions.{IsBare, IsOfMemory, IsAccess, ins
 use Rattle.wa_syntax.specs.Formats.{Format, ◌then◌, exactly, each, vec, byte, u32, i32, i64}
 use Rattle.wa_decode.specs.declared.fault.DecodeFault.{DecodeFault}
 use Rattle.wa_decode.specs.declared.fault.DecodeFault.TheVariants.{Malformed}
-use Rattle.wa_decode.specs.Reading.{Spelled, Reads, Passes, behind}
+use Rattle.wa_decode.specs.Reading.{Spelled, Reads, Passes, following}
 use Rattle.wa_decode.proofs.Arms.{Arm}
-use Rattle.wa_decode.proofs.OneInstruction.{number, IsOther, IsPlain, Stands, stands-one, first_of, memory_bare, access_range, plain_range, plain_access}
+use Rattle.wa_decode.proofs.OneInstruction.{number, IsOther, IsPlain, Stands, occurs-one, first_of, memory_bare, access_range, plain_range, plain_access}
 use Rattle.wa_decode.proofs.Places.{none_here, none_only, split}
 use Rattle.wa_decode.proofs.Reading.{pair, same_read, none_read, nothing, as-ok, as-err}
 use Rattle.wa_decode.proofs.Tails.{Starts, starts-one, byte_starts}
@@ -35,8 +35,8 @@ behind_byte {A = A} b op s h =
 with_first : {A : Format} (b : ℕ) (s : List ℕ) → A s → (byte b then A) (b ∷ s)
 with_first b s h = (b ∷ [], s, refl, refl, h)
 
-pub behind-ok : {U V : Type 0} {F : V → Format} {A : U → Format} {bytes : List ℕ} {at end op : ℕ} {u : U} (b : ℕ) (con : U → V) → Arm F A b con → op ≡ b → Reads A bytes at (Ok (u, end)) → Reads (behind op F) bytes at (Ok (con u, end))
-behind-ok {F = F} {bytes = bytes} {at = at} {end = end} {op = op} {u = u} b con arm is read = record {
+pub following-ok : {U V : Type 0} {F : V → Format} {A : U → Format} {bytes : List ℕ} {at end op : ℕ} {u : U} (b : ℕ) (con : U → V) → Arm F A b con → op ≡ b → Reads A bytes at (Ok (u, end)) → Reads (following op F) bytes at (Ok (con u, end))
+following-ok {F = F} {bytes = bytes} {at = at} {end = end} {op = op} {u = u} b con arm is read = record {
   found = record {
     forward = read.found.forward;
     within = read.found.within;
@@ -48,8 +48,8 @@ behind-ok {F = F} {bytes = bytes} {at = at} {end = end} {op = op} {u = u} b con 
       (ap con same.0 ∙ sym only.1, same.1);
 }
 
-pub behind-err : {U V : Type 0} {F : V → Format} {A : U → Format} {bytes : List ℕ} {at op : ℕ} {e : DecodeFault} (b : ℕ) (con : U → V) → Arm F A b con → op ≡ b → Reads A bytes at (Err e) → Reads (behind op F) bytes at (Err e)
-behind-err {F = F} {bytes = bytes} {at = at} b con arm is read = record {
+pub following-err : {U V : Type 0} {F : V → Format} {A : U → Format} {bytes : List ℕ} {at op : ℕ} {e : DecodeFault} (b : ℕ) (con : U → V) → Arm F A b con → op ≡ b → Reads A bytes at (Err e) → Reads (following op F) bytes at (Err e)
+following-err {F = F} {bytes = bytes} {at = at} b con arm is read = record {
   found = tt;
   complete = λ w to s.
       let only = arm.only w (b ∷ slice_range bytes at to) (subst (λ (c : ℕ). F w (c ∷ slice_range bytes at to)) is s.spelling) (slice_range bytes at to, refl) in
@@ -59,10 +59,10 @@ behind-err {F = F} {bytes = bytes} {at = at} b con arm is read = record {
 -- ---- each kind of instruction
 
 pub kind_of : (Body : List Instr → Format) (layer : Instr-F Instr) (n b : ℕ) (s : List ℕ) → Stands n b → instr_over Body layer s → Starts b s → number layer ≡ n
-kind_of Body layer n b s stands h starts =
+kind_of Body layer n b s occurs h starts =
     let f = first_of Body layer s h in
     let is : f.c ≡ b = starts-one f.c b s f.starts starts in
-    stands-one (number layer) n b (subst (Stands (number layer)) is f.stands) stands
+    occurs-one (number layer) n b (subst (Stands (number layer)) is f.occurs) occurs
 
 only-Br : (Body : List Instr → Format) (layer : Instr-F Instr) (s : List ℕ) → instr_over Body layer s → Starts 0x0c s → (u : ℕ) × (layer ≡ Instr-F.Br u) × (byte 0x0c then u32 u) s
 only-Br Body (Instr-F.Br l) s h starts = (l, refl, h)
@@ -231,7 +231,7 @@ pub no_layer : (Body : List Instr → Format) (op : ℕ) → op < 0x100 → (IsP
 no_layer Body op small plain access fixed layer s h =
     let f = first_of Body layer (op ∷ s) h in
     let is : f.c ≡ op = starts-one f.c op (op ∷ s) f.starts (s, refl) in
-    elim f.stands [
+    elim f.occurs [
       | inl p ↦ plain (subst IsPlain is p.1)
       | inr r ↦ elim r [
         | inl p ↦ access (subst IsAccess is p.1)
@@ -239,8 +239,8 @@ no_layer Body op small plain access fixed layer s h =
       ]
     ]
 
-pub behind-none : {V : Type 0} (F : V → Format) {bytes : List ℕ} {at op : ℕ} → ((w : V) (s : List ℕ) → F w (op ∷ s) → ⊥) → Reads (behind op F) bytes at (Err Malformed)
-behind-none F {bytes = bytes} {at = at} none = nothing (λ w to s. none w (slice_range bytes at to) s.spelling)
+pub following-none : {V : Type 0} (F : V → Format) {bytes : List ℕ} {at op : ℕ} → ((w : V) (s : List ℕ) → F w (op ∷ s) → ⊥) → Reads (following op F) bytes at (Err Malformed)
+following-none F {bytes = bytes} {at = at} none = nothing (λ w to s. none w (slice_range bytes at to) s.spelling)
 
 -- ---- the number behind the opcode
 
@@ -305,7 +305,7 @@ index-of Body (Instr-F.Memory o a f) op s is h = absurd (indexed-not (number (In
 index-of Body (Instr-F.I32Const n) op s is h = absurd (indexed-not (number (Instr-F.I32Const n)) is (inr (inr (omega arith))))
 index-of Body (Instr-F.I64Const n) op s is h = absurd (indexed-not (number (Instr-F.I64Const n)) is (inr (inr (omega arith))))
 
-pub index-err : {bytes : List ℕ} {at op : ℕ} {e : DecodeFault} (Body : List Instr → Format) → IsIndexed op → Reads u32 bytes at (Err e) → Reads (behind op (instr_over Body)) bytes at (Err e)
+pub index-err : {bytes : List ℕ} {at op : ℕ} {e : DecodeFault} (Body : List Instr → Format) → IsIndexed op → Reads u32 bytes at (Err e) → Reads (following op (instr_over Body)) bytes at (Err e)
 index-err {bytes = bytes} {at = at} {op = op} Body indexed read = record {
   found = tt;
   complete = λ w to s.
@@ -317,18 +317,18 @@ index-err {bytes = bytes} {at = at} {op = op} Body indexed read = record {
 
 -- ---- as an instruction, whatever the number of levels
 
-pub instr-from : {bytes : List ℕ} {at end op : ℕ} (Body : List Instr → Format) (layer : Instr-F Instr) (i : Instr) → roll-Instr layer ≡ i → Reads (behind op (instr_over Body)) bytes at (Ok (layer, end)) → Reads (behind op (λ (j : Instr). instr_over Body (out-Instr j))) bytes at (Ok (i, end))
+pub instr-from : {bytes : List ℕ} {at end op : ℕ} (Body : List Instr → Format) (layer : Instr-F Instr) (i : Instr) → roll-Instr layer ≡ i → Reads (following op (instr_over Body)) bytes at (Ok (layer, end)) → Reads (following op (λ (j : Instr). instr_over Body (out-Instr j))) bytes at (Ok (i, end))
 instr-from {bytes = bytes} {at = at} {end = end} {op = op} Body layer i is h =
-    let rolled : Reads (behind op (λ (j : Instr). instr_over Body (out-Instr j))) bytes at (Ok (roll-Instr layer, end)) =
+    let rolled : Reads (following op (λ (j : Instr). instr_over Body (out-Instr j))) bytes at (Ok (roll-Instr layer, end)) =
     as-ok roll-Instr out-Instr roll-out-Instr (λ v s k. k) (λ k. subst (λ (l : Instr-F Instr). instr_over Body l (op ∷ slice_range bytes at end)) (sym (out-roll-Instr layer)) k) h in
-    subst (λ (j : Instr). Reads (behind op (λ (k : Instr). instr_over Body (out-Instr k))) bytes at (Ok (j, end))) is rolled
+    subst (λ (j : Instr). Reads (following op (λ (k : Instr). instr_over Body (out-Instr k))) bytes at (Ok (j, end))) is rolled
 
-pub instr-ok : {bytes : List ℕ} {at end op : ℕ} (levels : ℕ) (layer : Instr-F Instr) (i : Instr) → roll-Instr layer ≡ i → ((Body : List Instr → Format) → Reads (behind op (instr_over Body)) bytes at (Ok (layer, end))) → Reads (behind op (instr levels)) bytes at (Ok (i, end))
+pub instr-ok : {bytes : List ℕ} {at end op : ℕ} (levels : ℕ) (layer : Instr-F Instr) (i : Instr) → roll-Instr layer ≡ i → ((Body : List Instr → Format) → Reads (following op (instr_over Body)) bytes at (Ok (layer, end))) → Reads (following op (instr levels)) bytes at (Ok (i, end))
 unfolding instr
 instr-ok zero layer i is h = instr-from (λ body bytes. ⊥) layer i is (h (λ body bytes. ⊥))
 instr-ok (suc levels) layer i is h = instr-from (each (instr levels)) layer i is (h (each (instr levels)))
 
-pub instr-err : {bytes : List ℕ} {at op : ℕ} {e : DecodeFault} (levels : ℕ) → ((Body : List Instr → Format) → Reads (behind op (instr_over Body)) bytes at (Err e)) → Reads (behind op (instr levels)) bytes at (Err e)
+pub instr-err : {bytes : List ℕ} {at op : ℕ} {e : DecodeFault} (levels : ℕ) → ((Body : List Instr → Format) → Reads (following op (instr_over Body)) bytes at (Err e)) → Reads (following op (instr levels)) bytes at (Err e)
 unfolding instr
 instr-err zero h = as-err out-Instr (λ v s k. k) (h (λ body bytes. ⊥))
 instr-err (suc levels) h = as-err out-Instr (λ v s k. k) (h (each (instr levels)))
@@ -388,5 +388,5 @@ memory-plain op from to h = plain_access op (plain_range op h) (from, to)
 pub memory-none : (op : ℕ) → 0x28 ≤ op → op ≤ 0x3e → (IsAccess op → ⊥) → (Body : List Instr → Format) (layer : Instr-F Instr) (s : List ℕ) → instr_over Body layer (op ∷ s) → ⊥
 memory-none op from to access Body = no_layer Body op (omega (arith, to)) (memory-plain op from to) access (memory-fixed op from to)
 
-pub instr-none : {bytes : List ℕ} {at op : ℕ} (levels : ℕ) → ((Body : List Instr → Format) (layer : Instr-F Instr) (s : List ℕ) → instr_over Body layer (op ∷ s) → ⊥) → Reads (behind op (instr levels)) bytes at (Err Malformed)
-instr-none levels none = instr-err levels (λ Body. behind-none (instr_over Body) (none Body))
+pub instr-none : {bytes : List ℕ} {at op : ℕ} (levels : ℕ) → ((Body : List Instr → Format) (layer : Instr-F Instr) (s : List ℕ) → instr_over Body layer (op ∷ s) → ⊥) → Reads (following op (instr levels)) bytes at (Err Malformed)
+instr-none levels none = instr-err levels (λ Body. following-none (instr_over Body) (none Body))

@@ -67,8 +67,8 @@ pass_one fuel T bytes at (Some zero) again passing is s =
     let whole : Spelled (custom one.c then T) bytes at (length bytes) = record { forward = s.forward; within = s.within; spelling = (one.front, one.back, one.whole, one.spelled, one.tail) } in
     let parts = split whole in
     let first = split parts.first in
-    let behind : first.mid ≡ at + 1 = (byte_only first.first).1 in
-    let rest = again parts.mid (omega (arith, behind, first.second.forward)) parts.second in
+    let following : first.mid ≡ at + 1 = (byte_only first.first).1 in
+    let rest = again parts.mid (omega (arith, following, first.second.forward)) parts.second in
     let p = parts.first.spelling in
     let front : Spelled (byte 0 then meaningless) bytes at parts.mid = record { forward = parts.first.forward; within = parts.first.within; spelling = (p.0, p.1, p.2, p.3, (one.c, p.4)) } in
     (rest.0, (record { customs = customs-front {end = rest.0} front rest.1.customs; over = rest.1.over }), rest.2)
@@ -92,9 +92,9 @@ is_section {id = id} {bytes = bytes} {at = at} S v T some optional rest s =
         past = past.1;
         spelled = both.first;
         left_out = λ same is.
-            let stands : slice_get bytes both.mid ≡ Some id = ap (λ (n : ℕ). slice_get bytes n) (sym same) ∙ is in
-            let within = slice_get-get_or bytes both.mid id stands in
-            elim (rest.above id (slice_range bytes both.mid (length bytes)) both.second.spelling (there_starts bytes both.mid (length bytes) within.0 stands)) [ inl none_it_is ↦ omega (arith, none_it_is, some) | inr more ↦ omega (arith, more) ];
+            let occurs : slice_get bytes both.mid ≡ Some id = ap (λ (n : ℕ). slice_get bytes n) (sym same) ∙ is in
+            let within = slice_get-get_or bytes both.mid id occurs in
+            elim (rest.above id (slice_range bytes both.mid (length bytes)) both.second.spelling (there_starts bytes both.mid (length bytes) within.0 occurs)) [ inl none_it_is ↦ omega (arith, none_it_is, some) | inr more ↦ omega (arith, more) ];
       }),
       both.second,
     )

@@ -6,7 +6,7 @@ use Rattle.wa_syntax.specs.declared.instr.Instr.TheViews.{roll-Instr, roll-out-I
 use Rattle.wa_syntax.specs.declared.module.ValTy.{ValTy}
 use Rattle.wa_syntax.specs.BinaryInstructions.{blocktype, IsBare, IsOfMemory, IsAccess, plain, conditional, instr_over, instr, max_nesting, expr}
 use Rattle.wa_syntax.specs.Formats.{Format, ◌then◌, each, byte}
-use Rattle.wa_decode.proofs.OneSpelling.{IsOne, one-byte, one-pair, one-as, one-u32, one-i32, one-i64, one-vec, one-blocktype, one-behind, same_back}
+use Rattle.wa_decode.proofs.OneSpelling.{IsOne, one-byte, one-pair, one-as, one-u32, one-i32, one-i64, one-vec, one-blocktype, one-following, same_back}
 use Rattle.wa_decode.proofs.Reading.{pair, same_pair}
 use Rattle.wa_decode.proofs.Tails.{Starts, byte_starts, starts-one}
 
@@ -94,8 +94,8 @@ number (Instr-F.I64Const n) = 0x42
 abbrev pub Stands : ℕ → ℕ → Type 0
 Stands n c = ((n ≡ 0x100) × IsPlain c) ⊎ ((n ≡ 0x101) × IsAccess c) ⊎ ((n ≡ c) × IsOther c)
 
-pub stands-one : (n m c : ℕ) → Stands n c → Stands m c → n ≡ m
-stands-one n m c h k =
+pub occurs-one : (n m c : ℕ) → Stands n c → Stands m c → n ≡ m
+occurs-one n m c h k =
     elim h [
       | inl p ↦ elim k [
         | inl q ↦ omega (arith, p.0, q.0)
@@ -124,19 +124,19 @@ stands-one n m c h k =
 
 pub record First (n : ℕ) (s : List ℕ) : Type 0 where
   pub c : ℕ
-  pub stands : Stands n c
+  pub occurs : Stands n c
   pub starts : Starts c s
 
 first-other : {A : Format} (b : ℕ) (s : List ℕ) → IsOther b → (byte b then A) s → First b s
-first-other b s other h = record { c = b; stands = inr (inr (refl, other)); starts = byte_starts b s h }
+first-other b s other h = record { c = b; occurs = inr (inr (refl, other)); starts = byte_starts b s h }
 
 pub first_of : (Body : List Instr → Format) (layer : Instr-F Instr) (s : List ℕ) → instr_over Body layer s → First (number layer) s
 first_of Body (Instr-F.Plain op) s h =
     elim h [
-      | inl bare ↦ record { c = op; stands = inl (refl, inl bare.0); starts = ([], bare.1) }
-      | inr memory ↦ record { c = op; stands = inl (refl, inr memory.0); starts = byte_starts op s memory.1 }
+      | inl bare ↦ record { c = op; occurs = inl (refl, inl bare.0); starts = ([], bare.1) }
+      | inr memory ↦ record { c = op; occurs = inl (refl, inr memory.0); starts = byte_starts op s memory.1 }
     ]
-first_of Body (Instr-F.Memory op align offset) s h = record { c = op; stands = inr (inl (refl, h.0)); starts = byte_starts op s h.1 }
+first_of Body (Instr-F.Memory op align offset) s h = record { c = op; occurs = inr (inl (refl, h.0)); starts = byte_starts op s h.1 }
 first_of Body (Instr-F.If t branches) s h =
     elim h [
       | inl one ↦ first-other 0x04 s (inl (omega arith, omega arith)) one.1
@@ -164,14 +164,14 @@ same_kind Body layer other a b x y h k same =
     let g = first_of Body other b k in
     let whole : f.c ∷ f.starts.0 ++ x ≡ g.c ∷ g.starts.0 ++ y = ap (λ (s : List ℕ). s ++ x) (sym f.starts.1) ∙ same ∙ ap (λ (s : List ℕ). s ++ y) g.starts.1 in
     let heads : f.c ≡ g.c = cc in
-    stands-one (number layer) (number other) g.c (subst (Stands (number layer)) heads f.stands) g.stands
+    occurs-one (number layer) (number other) g.c (subst (Stands (number layer)) heads f.occurs) g.occurs
 
 -- an `end` or an `else` stands in front
 abbrev pub StopsAt : List ℕ → Type 0
 StopsAt s = Starts 0x0b s ⊎ Starts 0x05 s
 
-stands-stop : (n c : ℕ) → (c ≡ 0x0b) ⊎ (c ≡ 0x05) → Stands n c → (n ≡ c) × IsOther c
-stands-stop n c stop h =
+occurs-stop : (n c : ℕ) → (c ≡ 0x0b) ⊎ (c ≡ 0x05) → Stands n c → (n ≡ c) × IsOther c
+occurs-stop n c stop h =
     elim h [
       | inl p ↦ absurd (elim stop [ inl e ↦ plain_other c (plain_range c p.1) (inl (omega arith, omega arith)) | inr e ↦ plain_other c (plain_range c p.1) (inl (omega arith, omega arith)) ])
       | inr r ↦ elim r [
@@ -207,11 +207,11 @@ layer-goes_on Body layer s x h stops =
     elim stops [
       | inl end ↦
           let is : f.c ≡ 0x0b = starts-one f.c 0x0b (s ++ x) starts end in
-          let both = stands-stop (number layer) f.c (inl is) f.stands in
+          let both = occurs-stop (number layer) f.c (inl is) f.occurs in
           number-stop layer (inl (both.0 ∙ is))
       | inr els ↦
           let is : f.c ≡ 0x05 = starts-one f.c 0x05 (s ++ x) starts els in
-          let both = stands-stop (number layer) f.c (inr is) f.stands in
+          let both = occurs-stop (number layer) f.c (inr is) f.occurs in
           number-stop layer (inr (both.0 ∙ is))
     ]
 
@@ -304,7 +304,7 @@ else_end-one {Body = Body} one_Body v w a b x y h k same =
             let f : Starts 0x05 (a ++ x) = (begins.0 ++ x, ap (λ (l : List ℕ). l ++ x) begins.1) in
             let g : Starts 0x0b (a ++ x) = (y, same ∙ ap (λ (l : List ℕ). l ++ y) q.1) in
             absurd (omega (arith, starts-one 0x05 0x0b (a ++ x) f g))
-        | inr q ↦ (one-behind 0x05 (one-body one_Body)).one v w a b x y p q same
+        | inr q ↦ (one-following 0x05 (one-body one_Body)).one v w a b x y p q same
       ]
     ]
 
@@ -328,7 +328,7 @@ conditional-parts Body t first second s h =
 one-conditional : {Body : List Instr → Format} → IsOneUpTo Body → IsOne (λ (p : Option ValTy × (List Instr × List Instr)). conditional Body p.0 p.1.0 p.1.1)
 one-conditional {Body = Body} one_Body =
     one-as {P = λ (p : Option ValTy × (List Instr × List Instr)). byte 0x04 then pair blocktype (pair Body (else_end Body)) p} (λ (p : Option ValTy × (List Instr × List Instr)). p) (λ v w same. same) (λ v s h. conditional-parts Body v.0 v.1.0 v.1.1 s h)
-    (one-behind 0x04 (one-pair one-blocktype (one-stopped one_Body (record { one = else_end-one one_Body }) (else_end-stops Body))))
+    (one-following 0x04 (one-pair one-blocktype (one-stopped one_Body (record { one = else_end-one one_Body }) (else_end-stops Body))))
 
 -- ---- an instruction
 
@@ -360,49 +360,49 @@ layers-one {Body = Body} one_Body (Instr-F.Plain v) (Instr-F.Plain w) a b x y h 
     let both = plain-one v w a b x y h k same in
     (both.0, ap (λ (n : ℕ). Instr-F.Plain n) both.1)
 layers-one {Body = Body} one_Body (Instr-F.Block t v) (Instr-F.Block u w) a b x y h k same =
-    let both = (one-behind 0x02 (one-pair one-blocktype (one-body one_Body))).one (t, v) (u, w) a b x y h k same in
+    let both = (one-following 0x02 (one-pair one-blocktype (one-body one_Body))).one (t, v) (u, w) a b x y h k same in
     (both.0, ap (λ (p : Option ValTy × List Instr). Instr-F.Block p.0 p.1) both.1)
 layers-one {Body = Body} one_Body (Instr-F.Loop t v) (Instr-F.Loop u w) a b x y h k same =
-    let both = (one-behind 0x03 (one-pair one-blocktype (one-body one_Body))).one (t, v) (u, w) a b x y h k same in
+    let both = (one-following 0x03 (one-pair one-blocktype (one-body one_Body))).one (t, v) (u, w) a b x y h k same in
     (both.0, ap (λ (p : Option ValTy × List Instr). Instr-F.Loop p.0 p.1) both.1)
 layers-one {Body = Body} one_Body (Instr-F.If t v) (Instr-F.If u w) a b x y h k same =
     let both = (one-conditional one_Body).one (t, v) (u, w) a b x y h k same in
     (both.0, ap (λ (p : Option ValTy × (List Instr × List Instr)). Instr-F.If p.0 p.1) both.1)
 layers-one {Body = Body} one_Body (Instr-F.Br v) (Instr-F.Br w) a b x y h k same =
-    let both = (one-behind 0x0c one-u32).one v w a b x y h k same in
+    let both = (one-following 0x0c one-u32).one v w a b x y h k same in
     (both.0, ap (λ (n : ℕ). Instr-F.Br n) both.1)
 layers-one {Body = Body} one_Body (Instr-F.BrIf v) (Instr-F.BrIf w) a b x y h k same =
-    let both = (one-behind 0x0d one-u32).one v w a b x y h k same in
+    let both = (one-following 0x0d one-u32).one v w a b x y h k same in
     (both.0, ap (λ (n : ℕ). Instr-F.BrIf n) both.1)
 layers-one {Body = Body} one_Body (Instr-F.Call v) (Instr-F.Call w) a b x y h k same =
-    let both = (one-behind 0x10 one-u32).one v w a b x y h k same in
+    let both = (one-following 0x10 one-u32).one v w a b x y h k same in
     (both.0, ap (λ (n : ℕ). Instr-F.Call n) both.1)
 layers-one {Body = Body} one_Body (Instr-F.LocalGet v) (Instr-F.LocalGet w) a b x y h k same =
-    let both = (one-behind 0x20 one-u32).one v w a b x y h k same in
+    let both = (one-following 0x20 one-u32).one v w a b x y h k same in
     (both.0, ap (λ (n : ℕ). Instr-F.LocalGet n) both.1)
 layers-one {Body = Body} one_Body (Instr-F.LocalSet v) (Instr-F.LocalSet w) a b x y h k same =
-    let both = (one-behind 0x21 one-u32).one v w a b x y h k same in
+    let both = (one-following 0x21 one-u32).one v w a b x y h k same in
     (both.0, ap (λ (n : ℕ). Instr-F.LocalSet n) both.1)
 layers-one {Body = Body} one_Body (Instr-F.LocalTee v) (Instr-F.LocalTee w) a b x y h k same =
-    let both = (one-behind 0x22 one-u32).one v w a b x y h k same in
+    let both = (one-following 0x22 one-u32).one v w a b x y h k same in
     (both.0, ap (λ (n : ℕ). Instr-F.LocalTee n) both.1)
 layers-one {Body = Body} one_Body (Instr-F.GlobalGet v) (Instr-F.GlobalGet w) a b x y h k same =
-    let both = (one-behind 0x23 one-u32).one v w a b x y h k same in
+    let both = (one-following 0x23 one-u32).one v w a b x y h k same in
     (both.0, ap (λ (n : ℕ). Instr-F.GlobalGet n) both.1)
 layers-one {Body = Body} one_Body (Instr-F.GlobalSet v) (Instr-F.GlobalSet w) a b x y h k same =
-    let both = (one-behind 0x24 one-u32).one v w a b x y h k same in
+    let both = (one-following 0x24 one-u32).one v w a b x y h k same in
     (both.0, ap (λ (n : ℕ). Instr-F.GlobalSet n) both.1)
 layers-one {Body = Body} one_Body (Instr-F.I32Const v) (Instr-F.I32Const w) a b x y h k same =
-    let both = (one-behind 0x41 one-i32).one v w a b x y h k same in
+    let both = (one-following 0x41 one-i32).one v w a b x y h k same in
     (both.0, ap (λ (n : ℕ). Instr-F.I32Const n) both.1)
 layers-one {Body = Body} one_Body (Instr-F.I64Const v) (Instr-F.I64Const w) a b x y h k same =
-    let both = (one-behind 0x42 one-i64).one v w a b x y h k same in
+    let both = (one-following 0x42 one-i64).one v w a b x y h k same in
     (both.0, ap (λ (n : ℕ). Instr-F.I64Const n) both.1)
 layers-one {Body = Body} one_Body (Instr-F.BrTable v) (Instr-F.BrTable w) a b x y h k same =
-    let both = (one-behind 0x0e (one-pair (one-vec one-u32) one-u32)).one v w a b x y h k same in
+    let both = (one-following 0x0e (one-pair (one-vec one-u32) one-u32)).one v w a b x y h k same in
     (both.0, ap (λ (p : List ℕ × ℕ). Instr-F.BrTable p) both.1)
 layers-one {Body = Body} one_Body (Instr-F.CallIndirect v) (Instr-F.CallIndirect w) a b x y h k same =
-    let both = (one-behind 0x11 (one-pair one-u32 one-byte)).one (v, 0x00) (w, 0x00) a b x y h k same in
+    let both = (one-following 0x11 (one-pair one-u32 one-byte)).one (v, 0x00) (w, 0x00) a b x y h k same in
     (both.0, ap (λ (p : ℕ × ℕ). Instr-F.CallIndirect p.0) both.1)
 layers-one {Body = Body} one_Body (Instr-F.Memory op v z) (Instr-F.Memory op2 w o) a b x y h k same =
     let both = (one-pair one-byte (one-pair one-u32 one-u32)).one (op, (v, z)) (op2, (w, o)) a b x y h.1 k.1 same in

@@ -3,7 +3,7 @@ use Rattle.std.proofs.Common.{◌≡◌, ◌≢◌, ℕ, ◌+◌, ◌-◌, List,
 use Rattle.std.proofs.lemmas.List.{length-map}
 use Rattle.std.proofs.lemmas.List.Folds.{drop_split}
 use Rattle.wa_syntax.specs.declared.instr.Instr.{Instr}
-use Rattle.wa_syntax.specs.declared.locals.Run.{Run}
+use Rattle.wa_syntax.specs.declared.locals.LocalRun.{LocalRun}
 use Rattle.wa_syntax.specs.declared.module.DataSegment.{DataSegment}
 use Rattle.wa_syntax.specs.declared.module.ElemSegment.{ElemSegment}
 use Rattle.wa_syntax.specs.declared.module.Export.{Export}
@@ -103,7 +103,7 @@ startsec_one s t = section_one content-startsec (one-sized start_one) (λ x y h 
 -- ---- the codes of functions, whose types are known
 
 one-run : IsOne run
-one-run = one-as (λ (r : Run). (r.count, r.ty)) (λ v w same. ap (λ (p : ℕ × ValTy). let r : Run = record { count = p.0; ty = p.1 } in r) same) (λ v s h. h) (one-pair one-u32 one-valtype)
+one-run = one-as (λ (r : LocalRun). (r.count, r.ty)) (λ v w same. ap (λ (p : ℕ × ValTy). let r : LocalRun = record { count = p.0; ty = p.1 } in r) same) (λ v s h. h) (one-pair one-u32 one-valtype)
 
 one-locals : IsOne locals
 one-locals = record {

@@ -209,14 +209,14 @@ pub one-mut : IsOne mut
 one-mut = one-of_bytes mut-code mut-back mut-down
 
 -- a value behind a byte that says what it is
-pub one-behind : {V : Type 0} {B : V → Format} (b : ℕ) → IsOne B → IsOne (λ (v : V). byte b then B v)
-one-behind {V = V} {B = B} b one_B =
+pub one-following : {V : Type 0} {B : V → Format} (b : ℕ) → IsOne B → IsOne (λ (v : V). byte b then B v)
+one-following {V = V} {B = B} b one_B =
     one-as {P = pair byte B} (λ (v : V). (b, v)) (λ v w same. ap (λ (p : ℕ × V). p.1) same) (λ v s h. h) (one-pair one-byte one_B)
 
 pub one-functype : IsOne functype
 one-functype =
     one-as (λ (t : FuncTy). (t.params, t.results)) (λ t u same. ap (λ (p : List ValTy × List ValTy). let it : FuncTy = record { params = p.0; results = p.1 } in it) same) (λ t s h. h)
-    (one-behind 0x60 (one-pair (one-vec one-valtype) (one-vec one-valtype)))
+    (one-following 0x60 (one-pair (one-vec one-valtype) (one-vec one-valtype)))
 
 pub one-globaltype : IsOne globaltype
 one-globaltype =
@@ -235,12 +235,12 @@ same_byte b c s t x y h k same =
 
 limits_of-one : (m n : ℕ) (p q : Option ℕ) (a b x y : List ℕ) → limits_of m p a → limits_of n q b → a ++ x ≡ b ++ y → (a ≡ b) × (m ≡ n) × (p ≡ q)
 limits_of-one m n None None a b x y h k same =
-    let both = (one-behind 0x00 one-u32).one m n a b x y h k same in
+    let both = (one-following 0x00 one-u32).one m n a b x y h k same in
     (both.0, both.1, refl)
 limits_of-one m n None (Some q) a b x y h k same = absurd (omega (arith, same_byte 0x00 0x01 a b x y h k same))
 limits_of-one m n (Some p) None a b x y h k same = absurd (omega (arith, same_byte 0x01 0x00 a b x y h k same))
 limits_of-one m n (Some p) (Some q) a b x y h k same =
-    let both = (one-behind 0x01 (one-pair one-u32 one-u32)).one (m, p) (n, q) a b x y h k same in
+    let both = (one-following 0x01 (one-pair one-u32 one-u32)).one (m, p) (n, q) a b x y h k same in
     (both.0, ap (λ (z : ℕ × ℕ). z.0) both.1, ap (λ (z : ℕ × ℕ). Some z.1) both.1)
 
 same_limits : (m n : ℕ) (p q : Option ℕ) → m ≡ n → p ≡ q → ◌≡◌ {A = Limits} (record { min = m; max = p }) (record { min = n; max = q })
@@ -255,19 +255,19 @@ one-limits = record {
 }
 
 pub one-tabletype : IsOne tabletype
-one-tabletype = one-behind 0x70 one-limits
+one-tabletype = one-following 0x70 one-limits
 
 -- ---- initial values, exports and imports
 
 init-one : (v w : Init) (a b x y : List ℕ) → init v a → init w b → a ++ x ≡ b ++ y → (a ≡ b) × (v ≡ w)
 init-one (Const32 m) (Const32 n) a b x y h k same =
-    let both = (one-behind 0x41 (one-pair one-i32 one-byte)).one (m, 0x0b) (n, 0x0b) a b x y h k same in
+    let both = (one-following 0x41 (one-pair one-i32 one-byte)).one (m, 0x0b) (n, 0x0b) a b x y h k same in
     (both.0, ap (λ (z : ℕ × ℕ). Const32 z.0) both.1)
 init-one (Const64 m) (Const64 n) a b x y h k same =
-    let both = (one-behind 0x42 (one-pair one-i64 one-byte)).one (m, 0x0b) (n, 0x0b) a b x y h k same in
+    let both = (one-following 0x42 (one-pair one-i64 one-byte)).one (m, 0x0b) (n, 0x0b) a b x y h k same in
     (both.0, ap (λ (z : ℕ × ℕ). Const64 z.0) both.1)
 init-one (Global m) (Global n) a b x y h k same =
-    let both = (one-behind 0x23 (one-pair one-u32 one-byte)).one (m, 0x0b) (n, 0x0b) a b x y h k same in
+    let both = (one-following 0x23 (one-pair one-u32 one-byte)).one (m, 0x0b) (n, 0x0b) a b x y h k same in
     (both.0, ap (λ (z : ℕ × ℕ). Global z.0) both.1)
 init-one (Const32 m) (Const64 n) a b x y h k same = absurd (omega (arith, same_byte 0x41 0x42 a b x y h k same))
 init-one (Const32 m) (Global n) a b x y h k same = absurd (omega (arith, same_byte 0x41 0x23 a b x y h k same))
@@ -281,28 +281,28 @@ one-init = record { one = init-one }
 
 importdesc-one : (v w : ImportKind) (a b x y : List ℕ) → importdesc v a → importdesc w b → a ++ x ≡ b ++ y → (a ≡ b) × (v ≡ w)
 importdesc-one (imported.Func m) (imported.Func n) a b x y h k same =
-    let both = (one-behind 0x00 one-u32).one m n a b x y h k same in
+    let both = (one-following 0x00 one-u32).one m n a b x y h k same in
     (both.0, ap (λ (z : ℕ). imported.Func z) both.1)
 importdesc-one (imported.Func m) (imported.Table n) a b x y h k same = absurd (omega (arith, same_byte 0x00 0x01 a b x y h k same))
 importdesc-one (imported.Func m) (imported.Memory n) a b x y h k same = absurd (omega (arith, same_byte 0x00 0x02 a b x y h k same))
 importdesc-one (imported.Func m) (imported.Global n) a b x y h k same = absurd (omega (arith, same_byte 0x00 0x03 a b x y h k same))
 importdesc-one (imported.Table m) (imported.Func n) a b x y h k same = absurd (omega (arith, same_byte 0x01 0x00 a b x y h k same))
 importdesc-one (imported.Table m) (imported.Table n) a b x y h k same =
-    let both = (one-behind 0x01 one-tabletype).one m n a b x y h k same in
+    let both = (one-following 0x01 one-tabletype).one m n a b x y h k same in
     (both.0, ap (λ (z : Limits). imported.Table z) both.1)
 importdesc-one (imported.Table m) (imported.Memory n) a b x y h k same = absurd (omega (arith, same_byte 0x01 0x02 a b x y h k same))
 importdesc-one (imported.Table m) (imported.Global n) a b x y h k same = absurd (omega (arith, same_byte 0x01 0x03 a b x y h k same))
 importdesc-one (imported.Memory m) (imported.Func n) a b x y h k same = absurd (omega (arith, same_byte 0x02 0x00 a b x y h k same))
 importdesc-one (imported.Memory m) (imported.Table n) a b x y h k same = absurd (omega (arith, same_byte 0x02 0x01 a b x y h k same))
 importdesc-one (imported.Memory m) (imported.Memory n) a b x y h k same =
-    let both = (one-behind 0x02 one-limits).one m n a b x y h k same in
+    let both = (one-following 0x02 one-limits).one m n a b x y h k same in
     (both.0, ap (λ (z : Limits). imported.Memory z) both.1)
 importdesc-one (imported.Memory m) (imported.Global n) a b x y h k same = absurd (omega (arith, same_byte 0x02 0x03 a b x y h k same))
 importdesc-one (imported.Global m) (imported.Func n) a b x y h k same = absurd (omega (arith, same_byte 0x03 0x00 a b x y h k same))
 importdesc-one (imported.Global m) (imported.Table n) a b x y h k same = absurd (omega (arith, same_byte 0x03 0x01 a b x y h k same))
 importdesc-one (imported.Global m) (imported.Memory n) a b x y h k same = absurd (omega (arith, same_byte 0x03 0x02 a b x y h k same))
 importdesc-one (imported.Global m) (imported.Global n) a b x y h k same =
-    let both = (one-behind 0x03 one-globaltype).one m n a b x y h k same in
+    let both = (one-following 0x03 one-globaltype).one m n a b x y h k same in
     (both.0, ap (λ (z : GlobalTy). imported.Global z) both.1)
 
 pub one-importdesc : IsOne importdesc
@@ -310,28 +310,28 @@ one-importdesc = record { one = importdesc-one }
 
 exportdesc-one : (v w : ExportKind) (a b x y : List ℕ) → exportdesc v a → exportdesc w b → a ++ x ≡ b ++ y → (a ≡ b) × (v ≡ w)
 exportdesc-one (exported.Func m) (exported.Func n) a b x y h k same =
-    let both = (one-behind 0x00 one-u32).one m n a b x y h k same in
+    let both = (one-following 0x00 one-u32).one m n a b x y h k same in
     (both.0, ap (λ (z : ℕ). exported.Func z) both.1)
 exportdesc-one (exported.Func m) (exported.Table n) a b x y h k same = absurd (omega (arith, same_byte 0x00 0x01 a b x y h k same))
 exportdesc-one (exported.Func m) (exported.Memory n) a b x y h k same = absurd (omega (arith, same_byte 0x00 0x02 a b x y h k same))
 exportdesc-one (exported.Func m) (exported.Global n) a b x y h k same = absurd (omega (arith, same_byte 0x00 0x03 a b x y h k same))
 exportdesc-one (exported.Table m) (exported.Func n) a b x y h k same = absurd (omega (arith, same_byte 0x01 0x00 a b x y h k same))
 exportdesc-one (exported.Table m) (exported.Table n) a b x y h k same =
-    let both = (one-behind 0x01 one-u32).one m n a b x y h k same in
+    let both = (one-following 0x01 one-u32).one m n a b x y h k same in
     (both.0, ap (λ (z : ℕ). exported.Table z) both.1)
 exportdesc-one (exported.Table m) (exported.Memory n) a b x y h k same = absurd (omega (arith, same_byte 0x01 0x02 a b x y h k same))
 exportdesc-one (exported.Table m) (exported.Global n) a b x y h k same = absurd (omega (arith, same_byte 0x01 0x03 a b x y h k same))
 exportdesc-one (exported.Memory m) (exported.Func n) a b x y h k same = absurd (omega (arith, same_byte 0x02 0x00 a b x y h k same))
 exportdesc-one (exported.Memory m) (exported.Table n) a b x y h k same = absurd (omega (arith, same_byte 0x02 0x01 a b x y h k same))
 exportdesc-one (exported.Memory m) (exported.Memory n) a b x y h k same =
-    let both = (one-behind 0x02 one-u32).one m n a b x y h k same in
+    let both = (one-following 0x02 one-u32).one m n a b x y h k same in
     (both.0, ap (λ (z : ℕ). exported.Memory z) both.1)
 exportdesc-one (exported.Memory m) (exported.Global n) a b x y h k same = absurd (omega (arith, same_byte 0x02 0x03 a b x y h k same))
 exportdesc-one (exported.Global m) (exported.Func n) a b x y h k same = absurd (omega (arith, same_byte 0x03 0x00 a b x y h k same))
 exportdesc-one (exported.Global m) (exported.Table n) a b x y h k same = absurd (omega (arith, same_byte 0x03 0x01 a b x y h k same))
 exportdesc-one (exported.Global m) (exported.Memory n) a b x y h k same = absurd (omega (arith, same_byte 0x03 0x02 a b x y h k same))
 exportdesc-one (exported.Global m) (exported.Global n) a b x y h k same =
-    let both = (one-behind 0x03 one-u32).one m n a b x y h k same in
+    let both = (one-following 0x03 one-u32).one m n a b x y h k same in
     (both.0, ap (λ (z : ℕ). exported.Global z) both.1)
 
 pub one-exportdesc : IsOne exportdesc

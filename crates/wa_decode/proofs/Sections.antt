@@ -78,8 +78,8 @@ customs_split [] bytes at place is s over =
 customs_split (c ∷ cs) bytes at place is s over =
     let parts = split s in
     let first = split parts.first in
-    let behind : first.mid ≡ at + 1 = (byte_only first.first).1 in
-    let second : Spelled (sized (name c.0 then exactly c.1)) bytes (at + 1) parts.mid = subst (λ (m : ℕ). Spelled (sized (name c.0 then exactly c.1)) bytes m parts.mid) behind first.second in (
+    let following : first.mid ≡ at + 1 = (byte_only first.first).1 in
+    let second : Spelled (sized (name c.0 then exactly c.1)) bytes (at + 1) parts.mid = subst (λ (m : ℕ). Spelled (sized (name c.0 then exactly c.1)) bytes m parts.mid) following first.second in (
       parts.mid,
       (record { forward = second.forward; within = second.within; spelling = (c, second.spelling) }),
       (record { customs = record { forward = parts.second.forward; within = parts.second.within; spelling = (cs, parts.second.spelling) }; over = over }),

@@ -40,8 +40,8 @@ pub begun-more : {V : Type 0} {B : V → Format} {bytes : List ℕ} {start : ℕ
 begun-more {B = B} {bytes = bytes} {start = start} {values = values} {at = at} {next = next} {v = v} goes_on row h = record {
   found = each-more B bytes start at next values v h.found.within row.found h.found;
   complete = λ all end s stops.
-      let behind = row.complete all end s stops in
-      more_behind B bytes at next end values v all behind.rest goes_on stops behind.whole behind.spelled h;
+      let following = row.complete all end s stops in
+      more_behind B bytes at next end values v all following.rest goes_on stops following.whole following.spelled h;
 }
 
 none_behind : {V : Type 0} (B : V → Format) (bytes : List ℕ) (at end : ℕ) (rest : List V) (e : DecodeFault) → (Stops bytes at → ⊥) → Stops bytes end → Spelled (each B rest) bytes at end → Reads B bytes at (Err e) → e ≡ NoMemory
@@ -53,8 +53,8 @@ pub begun-err : {V : Type 0} {B : V → Format} {bytes : List ℕ} {start : ℕ}
 begun-err {B = B} {bytes = bytes} {at = at} {e = e} goes_on row h = record {
   found = tt;
   complete = λ all end s stops.
-      let behind = row.complete all end s stops in
-      none_behind B bytes at end behind.rest e goes_on stops behind.spelled h;
+      let following = row.complete all end s stops in
+      none_behind B bytes at end following.rest e goes_on stops following.spelled h;
 }
 
 all_behind : {V : Type 0} (B : V → Format) (bytes : List ℕ) (at end : ℕ) (values all rest : List V) → GoesOn B bytes → Stops bytes at → all ≡ values ++ rest → Spelled (each B rest) bytes at end → (values ≡ all) × (at ≡ end)
@@ -67,6 +67,6 @@ pub begun-done : {V : Type 0} {B : V → Format} {bytes : List ℕ} {start : ℕ
 begun-done {B = B} {bytes = bytes} {values = values} {at = at} goes_on stops row = record {
   found = (row.found, stops);
   complete = λ all end s stop.
-      let behind = row.complete all end s stop in
-      all_behind B bytes at end values all behind.rest goes_on stops behind.whole behind.spelled;
+      let following = row.complete all end s stop in
+      all_behind B bytes at end values all following.rest goes_on stops following.whole following.spelled;
 }

@@ -35,10 +35,10 @@ each-more B bytes start at next (w ∷ values) v within s here =
     join parts.first (each-more B bytes parts.mid at next values v within parts.second here)
 
 -- another value is read
-behind-more : {V : Type 0} (B : V → Format) (bytes : List ℕ) (at next end : ℕ) (values : List V) (v : V) (all rest : List V) → length values < length all → all ≡ values ++ rest → Spelled (each B rest) bytes at end → Reads B bytes at (Ok (v, next)) → Behind B bytes next end (values ++ v ∷ []) all
-behind-more B bytes at next end values v all [] few whole s h =
+following-more : {V : Type 0} (B : V → Format) (bytes : List ℕ) (at next end : ℕ) (values : List V) (v : V) (all rest : List V) → length values < length all → all ≡ values ++ rest → Spelled (each B rest) bytes at end → Reads B bytes at (Ok (v, next)) → Behind B bytes next end (values ++ v ∷ []) all
+following-more B bytes at next end values v all [] few whole s h =
     absurd (omega (arith, ap length whole, ap length (append-nil values), few))
-behind-more B bytes at next end values v all (r ∷ rest) few whole s h =
+following-more B bytes at next end values v all (r ∷ rest) few whole s h =
     let after = after_read h s in
     record {
       rest = rest;
@@ -50,31 +50,31 @@ pub row-more : {V : Type 0} {B : V → Format} {bytes : List ℕ} {start count :
 row-more {B = B} {bytes = bytes} {start = start} {values = values} {at = at} {next = next} {v = v} few row h = record {
   found = each-more B bytes start at next values v h.found.within row.found h.found;
   complete = λ all end long s.
-      let behind = row.complete all end long s in
-      behind-more B bytes at next end values v all behind.rest (omega arith) behind.whole behind.spelled h;
+      let following = row.complete all end long s in
+      following-more B bytes at next end values v all following.rest (omega arith) following.whole following.spelled h;
 }
 
 -- no other value is
-behind-none : {V : Type 0} (B : V → Format) (bytes : List ℕ) (at end : ℕ) (values all rest : List V) (e : DecodeFault) → length values < length all → all ≡ values ++ rest → Spelled (each B rest) bytes at end → Reads B bytes at (Err e) → e ≡ NoMemory
-behind-none B bytes at end values all [] e few whole s h =
+following-none : {V : Type 0} (B : V → Format) (bytes : List ℕ) (at end : ℕ) (values all rest : List V) (e : DecodeFault) → length values < length all → all ≡ values ++ rest → Spelled (each B rest) bytes at end → Reads B bytes at (Err e) → e ≡ NoMemory
+following-none B bytes at end values all [] e few whole s h =
     absurd (omega (arith, ap length whole, ap length (append-nil values), few))
-behind-none B bytes at end values all (r ∷ rest) e few whole s h = none_read h (split s).first
+following-none B bytes at end values all (r ∷ rest) e few whole s h = none_read h (split s).first
 
 pub row-err : {V : Type 0} {B : V → Format} {bytes : List ℕ} {start count : ℕ} {values : List V} {at : ℕ} {e : DecodeFault} → length values < count → Row B bytes start count values at → Reads B bytes at (Err e) → (all : List V) (end : ℕ) → length all ≡ count → Spelled (each B all) bytes start end → e ≡ NoMemory
 row-err {B = B} {bytes = bytes} {values = values} {at = at} {e = e} few row h all end long s =
-    let behind = row.complete all end long s in
-    behind-none B bytes at end values all behind.rest e (omega arith) behind.whole behind.spelled h
+    let following = row.complete all end long s in
+    following-none B bytes at end values all following.rest e (omega arith) following.whole following.spelled h
 
 -- all were read
-behind-done : {V : Type 0} (B : V → Format) (bytes : List ℕ) (at end : ℕ) (values all rest : List V) → length values ≡ length all → all ≡ values ++ rest → Spelled (each B rest) bytes at end → (values ≡ all) × (at ≡ end)
-behind-done B bytes at end values all [] long whole s = (sym (whole ∙ append-nil values), none_only s)
-behind-done B bytes at end values all (r ∷ rest) long whole s =
+following-done : {V : Type 0} (B : V → Format) (bytes : List ℕ) (at end : ℕ) (values all rest : List V) → length values ≡ length all → all ≡ values ++ rest → Spelled (each B rest) bytes at end → (values ≡ all) × (at ≡ end)
+following-done B bytes at end values all [] long whole s = (sym (whole ∙ append-nil values), none_only s)
+following-done B bytes at end values all (r ∷ rest) long whole s =
     absurd (omega (arith, ap length whole, length-append values (r ∷ rest)))
 
 pub row-done : {V : Type 0} {B : V → Format} {bytes : List ℕ} {start count : ℕ} {values : List V} {at : ℕ} → length values ≡ count → Row B bytes start count values at → (all : List V) (end : ℕ) → length all ≡ count → Spelled (each B all) bytes start end → (values ≡ all) × (at ≡ end)
 row-done {B = B} {bytes = bytes} {values = values} {at = at} done row all end long s =
-    let behind = row.complete all end long s in
-    behind-done B bytes at end values all behind.rest (omega arith) behind.whole behind.spelled
+    let following = row.complete all end long s in
+    following-done B bytes at end values all following.rest (omega arith) following.whole following.spelled
 
 -- ---- vectors
 

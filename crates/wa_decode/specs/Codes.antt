@@ -1,6 +1,6 @@
 -- The locals and the code of functions (5.5.13). The types of functions have their numbers in a section of their own.
 use Rattle.std.specs.Prelude.{◌≡◌, ℕ, List, map}
-use Rattle.wa_syntax.specs.declared.locals.Run.{Run}
+use Rattle.wa_syntax.specs.declared.locals.LocalRun.{LocalRun}
 use Rattle.wa_syntax.specs.declared.module.Func.{Func}
 use Rattle.wa_syntax.specs.declared.module.ValTy.{ValTy}
 use Rattle.wa_syntax.specs.Binary.{code, run, vecsec}
@@ -9,7 +9,7 @@ use Rattle.wa_syntax.specs.Locals.{types_of_runs}
 
 -- runs that stand for these locals, however many
 abbrev pub runs_of : List ValTy → Format
-runs_of types bytes = (runs : List Run) × (types_of_runs runs ≡ types) × vec run runs bytes
+runs_of types bytes = (runs : List LocalRun) × (types_of_runs runs ≡ types) × vec run runs bytes
 
 -- the code of a function whose type has this number
 abbrev pub code_of : ℕ → Func → Format

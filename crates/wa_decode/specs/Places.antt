@@ -11,7 +11,7 @@ ReachesIn bytes at end = (at ≤ end) × (end ≤ length bytes)
 
 -- the bytes up to the end of some content, which starts at a place behind the one at which it was read
 pub record HoldsContent (bytes : List ℕ) (at : ℕ) (content : List ℕ) (start : ℕ) : Type 0 where
-  pub behind : at < start
+  pub following : at < start
   pub starts : start ≤ length content
   pub front : content ≡ take (length content) bytes
   pub within : length content ≤ length bytes

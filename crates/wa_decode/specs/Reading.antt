@@ -18,8 +18,8 @@ abbrev pub counted : List ℕ → Format
 counted content = u32 (length content) then exactly content
 
 -- what is left of a format behind its first byte
-abbrev pub behind : {V : Type 0} → ℕ → (V → Format) → V → Format
-behind b F v bytes = F v (b ∷ bytes)
+abbrev pub following : {V : Type 0} → ℕ → (V → Format) → V → Format
+following b F v bytes = F v (b ∷ bytes)
 
 -- the second branch of a conditional, which may be left out, and the end (5.4.1)
 abbrev pub alternative : (List Instr → Format) → List Instr → Format

@@ -13,20 +13,20 @@ use crate::types::ValueType;
 use crate::value::{ends, sized, unsigned};
 use sqlite_items::Items;
 use std::alloc::Global;
-use wa_syntax::{Func, Locals, Run};
+use wa_syntax::{Func, LocalRun, Locals};
 
 /// How many locals a function may declare.
 const MAX_LOCALS: u64 = 1_000_000;
 
 /// Locals of one type in a row (5.5.13).
-fn run(alloc: Global, bytes: &[u8], at: u32) -> Decoded<Run>
+fn run(alloc: Global, bytes: &[u8], at: u32) -> Decoded<LocalRun>
     requires { length bytes.now < u32.MAX }
     ensures reads { Reads run bytes.now at result }
     ensures ends { IfOk result (λ read. EndsIn bytes.now at read.1) }
 {
     let (count, at) = unsigned(bytes, at)?;
     let (ty, end) = ValueType::read(alloc, bytes, at)?;
-    Ok((Run { count, ty }, end))
+    Ok((LocalRun { count, ty }, end))
 }
 
 /// The locals of a function, without the parameters: a vector of runs (5.5.13).

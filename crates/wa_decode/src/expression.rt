@@ -4,7 +4,7 @@ ghost use Rattle.std.specs.Prelude.{◌<◌, ◌≤◌, ◌↔◌, length, IfOk,
 ghost use Rattle.wa_syntax.specs.BinaryInstructions.{expr, instr};
 ghost use Rattle.wa_syntax.specs.Formats.{each};
 ghost use Rattle.wa_decode.specs.Places.{EndsIn, ReachesIn};
-ghost use Rattle.wa_decode.specs.Reading.{Reads, ReadsUpTo, Stops, alternative, behind};
+ghost use Rattle.wa_decode.specs.Reading.{Reads, ReadsUpTo, Stops, alternative, following};
 
 use crate::fault::DecodeFault;
 use crate::instruction::simple;
@@ -77,7 +77,7 @@ fn instruction(alloc: Global, bytes: &[u8], at: u32, levels: u32) -> Decoded<Ins
 fn structured(alloc: Global, opcode: u8, bytes: &[u8], at: u32, levels: u32) -> Decoded<Instr>
     requires size { length bytes.now < u32.MAX }
     requires opcode { (0x02 ≤ opcode) × (opcode ≤ 0x04) }
-    ensures reads { Reads (behind opcode (instr levels)) bytes.now at result }
+    ensures reads { Reads (following opcode (instr levels)) bytes.now at result }
     ensures ends { IfOk result (λ read. EndsIn bytes.now at read.1) }
 {
     if levels == 0 {

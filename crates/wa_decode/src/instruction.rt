@@ -3,7 +3,7 @@
 ghost use Rattle.std.specs.Prelude.{ℕ, ◌<◌, ◌≤◌, ◌↔◌, ◌⊎◌, length, IfOk, IsTrue};
 ghost use Rattle.wa_syntax.specs.BinaryInstructions.{IsBare, IsAccess, instr};
 ghost use Rattle.wa_decode.specs.Places.{EndsIn, ReachesIn};
-ghost use Rattle.wa_decode.specs.Reading.{Reads, behind};
+ghost use Rattle.wa_decode.specs.Reading.{Reads, following};
 
 use crate::fault::DecodeFault;
 use crate::production::{Decoded, vector};
@@ -21,7 +21,7 @@ pub fn simple(alloc: Global, opcode: u8, bytes: &[u8], at: u32) -> Decoded<Instr
     requires place { at ≤ length bytes.now }
     requires opcode { (opcode < 0x02) ⊎ (0x04 < opcode) }
     ensures reaches { IfOk result (λ read. ReachesIn bytes.now at read.1) }
-    ensures reads { (levels : ℕ) → Reads (behind opcode (instr levels)) bytes.now at result }
+    ensures reads { (levels : ℕ) → Reads (following opcode (instr levels)) bytes.now at result }
 {
     if is_bare(opcode) {
         return Ok((Instr::Plain(opcode), at));
@@ -68,7 +68,7 @@ fn is_access(opcode: u8) -> bool
 fn control(alloc: Global, opcode: u8, bytes: &[u8], at: u32) -> Decoded<Instr>
     requires size { length bytes.now < u32.MAX }
     requires opcode { (0x0c ≤ opcode) × (opcode ≤ 0x11) × (IsBare opcode → ⊥) }
-    ensures reads { (levels : ℕ) → Reads (behind opcode (instr levels)) bytes.now at result }
+    ensures reads { (levels : ℕ) → Reads (following opcode (instr levels)) bytes.now at result }
     ensures ends { IfOk result (λ read. EndsIn bytes.now at read.1) }
 {
     if opcode == BR_TABLE {
@@ -90,7 +90,7 @@ fn control(alloc: Global, opcode: u8, bytes: &[u8], at: u32) -> Decoded<Instr>
 /// `br_table` (5.4.1): its labels, and the default one.
 fn branch_table(alloc: Global, bytes: &[u8], at: u32) -> Decoded<Instr>
     requires { length bytes.now < u32.MAX }
-    ensures reads { (levels : ℕ) → Reads (behind 0x0e (instr levels)) bytes.now at result }
+    ensures reads { (levels : ℕ) → Reads (following 0x0e (instr levels)) bytes.now at result }
     ensures ends { IfOk result (λ read. EndsIn bytes.now at read.1) }
 {
     let (labels, at) = vector::<Index>(alloc, bytes, at)?;
@@ -102,7 +102,7 @@ fn branch_table(alloc: Global, bytes: &[u8], at: u32) -> Decoded<Instr>
 fn variable(opcode: u8, bytes: &[u8], at: u32) -> Decoded<Instr>
     requires size { length bytes.now < u32.MAX }
     requires opcode { (0x20 ≤ opcode) × (opcode ≤ 0x24) }
-    ensures reads { (levels : ℕ) → Reads (behind opcode (instr levels)) bytes.now at result }
+    ensures reads { (levels : ℕ) → Reads (following opcode (instr levels)) bytes.now at result }
     ensures ends { IfOk result (λ read. EndsIn bytes.now at read.1) }
 {
     let (index, end) = unsigned(bytes, at)?;
@@ -120,7 +120,7 @@ fn variable(opcode: u8, bytes: &[u8], at: u32) -> Decoded<Instr>
 fn memory(opcode: u8, bytes: &[u8], at: u32) -> Decoded<Instr>
     requires size { length bytes.now < u32.MAX }
     requires opcode { (0x28 ≤ opcode) × (opcode ≤ 0x40) }
-    ensures reads { (levels : ℕ) → Reads (behind opcode (instr levels)) bytes.now at result }
+    ensures reads { (levels : ℕ) → Reads (following opcode (instr levels)) bytes.now at result }
     ensures ends { IfOk result (λ read. EndsIn bytes.now at read.1) }
 {
     if is_access(opcode) {
@@ -142,7 +142,7 @@ fn constant(opcode: u8, bytes: &[u8], at: u32) -> Decoded<Instr>
     requires size { length bytes.now < u32.MAX }
     requires opcode { ((opcode < 0x02) ⊎ (0x04 < opcode)) × ((opcode < 0x0c) ⊎ (0x11 < opcode)) × ((opcode < 0x20) ⊎ (0x24 < opcode))
         × ((opcode < 0x28) ⊎ (0x40 < opcode)) × (IsBare opcode → ⊥) }
-    ensures reads { (levels : ℕ) → Reads (behind opcode (instr levels)) bytes.now at result }
+    ensures reads { (levels : ℕ) → Reads (following opcode (instr levels)) bytes.now at result }
     ensures ends { IfOk result (λ read. EndsIn bytes.now at read.1) }
 {
     match opcode {

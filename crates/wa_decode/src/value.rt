@@ -10,7 +10,7 @@ ghost use Rattle.wa_decode.specs.declared.fault.DecodeFault.TheVariants.{Malform
 use crate::fault::DecodeFault;
 use crate::production::{Decoded, Production};
 use std::alloc::Global;
-use wa_syntax::{Name, read_i32, read_i64, read_u32};
+use wa_syntax::{WasmName, read_i32, read_i64, read_u32};
 
 /// A byte (5.2.1).
 pub fn byte(bytes: &[u8], at: u32) -> Decoded<u8>
@@ -142,11 +142,11 @@ pub fn name_bytes(bytes: &[u8], at: u32) -> Decoded<&[u8]>
 }
 
 /// A name (5.2.4).
-pub fn name(alloc: Global, bytes: &[u8], at: u32) -> Decoded<Name>
+pub fn name(alloc: Global, bytes: &[u8], at: u32) -> Decoded<WasmName>
     requires { length bytes.now < u32.MAX }
     ensures ends { IfOk result (λ read. EndsIn bytes.now at read.1) }
     ensures reads { Reads formats.name bytes.now at result }
 {
     let (text, end) = name_bytes(bytes, at)?;
-    Ok((Name::from_slice(alloc, text)?, end))
+    Ok((WasmName::from_slice(alloc, text)?, end))
 }

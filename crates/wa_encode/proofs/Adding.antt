@@ -55,8 +55,8 @@ Adds-then {A} {B} {old} {middle} {new} a b = record {
 }
 
 -- a third one behind two
-pub Adds-behind : {A B C : Format} {old middle new : List ℕ} → Adds (A then B) old middle → Adds C middle new → Adds (A then B then C) old new
-Adds-behind {A} {B} {C} {old} {middle} {new} ab c =
+pub Adds-following : {A B C : Format} {old middle new : List ℕ} → Adds (A then B) old middle → Adds C middle new → Adds (A then B then C) old new
+Adds-following {A} {B} {C} {old} {middle} {new} ab c =
     Adds-as {A = (A then B) then C} (A then B then C)
     (λ other h. (h.0 ++ h.4.0, h.4.1, h.2 ∙ ap (λ (back : List ℕ). h.0 ++ back) h.4.2 ∙ sym (append_assoc h.0 h.4.0 h.4.1), (h.0, h.4.0, refl, h.3, h.4.3), h.4.4))
     (λ bytes h. (h.3.0, h.3.1 ++ h.1, h.2 ∙ ap (λ (front : List ℕ). front ++ h.1) h.3.2 ∙ append_assoc h.3.0 h.3.1 h.1, h.3.3, (h.3.1, h.1, refl, h.3.4, h.4)))

@@ -17,7 +17,7 @@ use Rattle.wa_syntax.specs.Formats.{Format, ◌then◌, each, vec, byte, name, s
 use Rattle.wa_syntax.specs.BinaryInstructions.{IsBare, plain, conditional, instr_over, instr, blocktype}
 use Rattle.wa_syntax.specs.Binary.{section, vecsec, customs, magic, version, SpellsModule}
 use Rattle.wa_encode.specs.Spelling.{IsLeast, Adds, IsNumber, IsCounted, IsSection, Leaves, AddsVector, AddsVectorSection, else_end, sections}
-use Rattle.wa_encode.proofs.Adding.{Adds-as, Adds-never, Adds-exactly, Adds-byte, Adds-then, Adds-behind, Adds-u32, Adds-called, Adds-vec-called, Adds-vec-map, IsLeast-from_Adds}
+use Rattle.wa_encode.proofs.Adding.{Adds-as, Adds-never, Adds-exactly, Adds-byte, Adds-then, Adds-following, Adds-u32, Adds-called, Adds-vec-called, Adds-vec-map, IsLeast-from_Adds}
 use Rattle.wa_encode.proofs.Numbers.{shorter}
 use Rattle.wa_encode.proofs.Orders.{IsOrFewer, no_more, of_none, of_parts, unsigned_is}
 
@@ -263,20 +263,20 @@ pub Ok-Block : {T E : Type 0} (r : Result T E) (i : Instr) (t : Option ValTy) (g
 Ok-Block r i t given body old middle new is same h =
     on_ok_weaker {P = (levels : ℕ) → Adds (each (instr levels) given then byte 0x0b) middle new} {Q = (levels : ℕ) → Adds (instr levels i) old new} r (λ end.
     Adds-Block i t body old new (layer_of i (variant.Block t body) (Instr-F.Block t body) is (variant.rolls-Block t body))
-    (λ levels. subst (λ (instrs : List Instr). Adds (byte 0x02 then blocktype t then each (instr levels) instrs then byte 0x0b) old new) same (Adds-behind h (end levels))))
+    (λ levels. subst (λ (instrs : List Instr). Adds (byte 0x02 then blocktype t then each (instr levels) instrs then byte 0x0b) old new) same (Adds-following h (end levels))))
 
 pub Ok-Loop : {T E : Type 0} (r : Result T E) (i : Instr) (t : Option ValTy) (given body : List Instr) (old middle new : List ℕ) → i ≡ variant.Loop t body → given ≡ body → Adds (byte 0x03 then blocktype t) old middle → OnOk r ((levels : ℕ) → Adds (each (instr levels) given then byte 0x0b) middle new) → OnOk r ((levels : ℕ) → Adds (instr levels i) old new)
 Ok-Loop r i t given body old middle new is same h =
     on_ok_weaker {P = (levels : ℕ) → Adds (each (instr levels) given then byte 0x0b) middle new} {Q = (levels : ℕ) → Adds (instr levels i) old new} r (λ end.
     Adds-Loop i t body old new (layer_of i (variant.Loop t body) (Instr-F.Loop t body) is (variant.rolls-Loop t body))
-    (λ levels. subst (λ (instrs : List Instr). Adds (byte 0x03 then blocktype t then each (instr levels) instrs then byte 0x0b) old new) same (Adds-behind h (end levels))))
+    (λ levels. subst (λ (instrs : List Instr). Adds (byte 0x03 then blocktype t then each (instr levels) instrs then byte 0x0b) old new) same (Adds-following h (end levels))))
 
 pub Ok-If : {T E : Type 0} (r : Result T E) (i : Instr) (t : Option ValTy) (arms : List Instr × List Instr) (given other : List Instr) (old middle after new : List ℕ) → i ≡ variant.If t arms → given ≡ arms.0 → other ≡ arms.1 → Adds (byte 0x04 then blocktype t) old middle → ((levels : ℕ) → Adds (each (instr levels) given) middle after) → OnOk r ((levels : ℕ) → Adds (else_end (each (instr levels)) other) after new) → OnOk r ((levels : ℕ) → Adds (instr levels i) old new)
 Ok-If r i t arms given other old middle after new is same same_branch h k =
     on_ok_weaker {P = (levels : ℕ) → Adds (else_end (each (instr levels)) other) after new} {Q = (levels : ℕ) → Adds (instr levels i) old new} r (λ end.
     Adds-If i t arms.0 arms.1 old new (layer_of i (variant.If t arms) (Instr-F.If t arms) is (variant.rolls-If t arms))
     (λ levels. subst (λ (instrs : List Instr). Adds (byte 0x04 then blocktype t then each (instr levels) arms.0 then else_end (each (instr levels)) instrs) old new) same_branch
-    (subst (λ (instrs : List Instr). Adds (byte 0x04 then blocktype t then each (instr levels) instrs then else_end (each (instr levels)) other) old new) same (Adds-behind h (Adds-then (k levels) (end levels))))))
+    (subst (λ (instrs : List Instr). Adds (byte 0x04 then blocktype t then each (instr levels) instrs then else_end (each (instr levels)) other) old new) same (Adds-following h (Adds-then (k levels) (end levels))))))
 
 -- ---- the module
 

@@ -4,7 +4,7 @@ use Rattle.std.specs.Global.{Vec}
 use Rattle.std.specs.List.{FoldsTo}
 use denote.Ref.{Bor, MutBor}
 use Rattle.wa_syntax.specs.declared.instr.Instr.{Instr}
-use Rattle.wa_syntax.specs.declared.locals.Run.{Run}
+use Rattle.wa_syntax.specs.declared.locals.LocalRun.{LocalRun}
 use Rattle.wa_syntax.specs.declared.module.Module.{Module}
 use Rattle.wa_syntax.specs.declared.no_memory.NoMemory.{NoMemory}
 use Rattle.wa_syntax.specs.Leb128.{IsUnsigned, IsShortest, Appends}
@@ -59,22 +59,22 @@ AddsVectorSection Step id old new vs =
     ⊎ ((content : List ℕ) × (0 < length vs) × AddsVector Step [] content vs × Appends (IsSection id) old new content)
 
 -- two runs that are not empty and that no run stands for: of two types, or too long together
-abbrev pub AreApart : Run → Run → Type 0
+abbrev pub AreApart : LocalRun → LocalRun → Type 0
 AreApart first second =
     (0 < first.count) × (0 < second.count) × ((first.ty ≢ second.ty) ⊎ (2 ^ 32 ≤ first.count + second.count))
 
 -- no run is empty, and no two neighbours could be one run (5.5.13)
-abbrev pub AreLongest : List Run → Type 0
+abbrev pub AreLongest : List LocalRun → Type 0
 AreLongest [] = ⊤
 AreLongest (last ∷ []) = 0 < last.count
 AreLongest (first ∷ second ∷ runs) = AreApart first second × AreLongest (second ∷ runs)
 
 -- the runs behind which one more stands, which may be empty where it is the only one
-abbrev pub AreLongestTo : List Run → Run → Type 0
+abbrev pub AreLongestTo : List LocalRun → LocalRun → Type 0
 AreLongestTo runs last = ((runs ≡ []) × (last.count ≡ 0)) ⊎ AreLongest (runs ++ last ∷ [])
 
 -- of two runs one, where the other is empty, or a run of both
-abbrev pub IsJoined : Run → Run → Run → Type 0
+abbrev pub IsJoined : LocalRun → LocalRun → LocalRun → Type 0
 IsJoined first second run =
     ((first.count ≡ 0) × (run ≡ second))
     ⊎ ((second.count ≡ 0) × (run ≡ first))

@@ -8,7 +8,7 @@ ghost use Rattle.wa_encode.specs.Spelling.{Adds, AreApart, AreLongest, AreLonges
 use crate::types::value_type;
 use crate::value::{number, vector};
 use std::alloc::Global;
-use wa_syntax::{Locals, NoMemory, Run, ValTy};
+use wa_syntax::{LocalRun, Locals, NoMemory, ValTy};
 
 /// The locals of a function, in the longest runs of one type.
 pub fn locals(alloc: Global, out: &mut Vec<u8>, locals: &Locals) -> Result<(), NoMemory>
@@ -19,7 +19,7 @@ pub fn locals(alloc: Global, out: &mut Vec<u8>, locals: &Locals) -> Result<(), N
 }
 
 /// A run: how many locals there are, and their type.
-fn run(out: &mut Vec<u8>, run: &Run) -> Result<(), NoMemory>
+fn run(out: &mut Vec<u8>, run: &LocalRun) -> Result<(), NoMemory>
     ensures { OnOk result (Adds (binary.run run.now) out.old.items out.new.items) }
 {
     number(out, &run.count)?;
@@ -28,12 +28,12 @@ fn run(out: &mut Vec<u8>, run: &Run) -> Result<(), NoMemory>
 
 /// The same locals in runs that are as long as they can be: neighbours of one type are joined, and empty runs left out.
 #[tactic(auto, using(crate::proofs::Joining::joining, std::proofs::lemmas::Grind::common_steps))]
-fn longest_runs(alloc: Global, runs: &[Run]) -> Result<Vec<Run>, NoMemory>
+fn longest_runs(alloc: Global, runs: &[LocalRun]) -> Result<Vec<LocalRun>, NoMemory>
     ensures same { IfOk result (λ longest. types_of_runs longest.items ≡ types_of_runs runs.now) }
     ensures longest { IfOk result (λ longest. AreLongest longest.items) }
 {
     let mut longest = Vec::new(alloc);
-    let mut last = Run {
+    let mut last = LocalRun {
         count: 0,
         ty: ValTy::I32,
     };
@@ -49,7 +49,11 @@ fn longest_runs(alloc: Global, runs: &[Run]) -> Result<Vec<Run>, NoMemory>
 
 /// Adds a run behind the last one, which isn't in the list yet, and gives the one that is then the last.
 #[tactic(auto, using(crate::proofs::Joining::joining))]
-fn with_run(longest: &mut Vec<Run>, last: Run, run: Run) -> Result<Run, NoMemory>
+fn with_run(
+    longest: &mut Vec<LocalRun>,
+    last: LocalRun,
+    run: LocalRun,
+) -> Result<LocalRun, NoMemory>
     ensures same { IfOk result (λ longer. types_of_runs (longest.new.items ++ longer ∷ [])
         ≡ types_of_runs (longest.old.items ++ last ∷ []) ++ types_of_runs (run ∷ [])) }
     ensures longest { AreLongestTo longest.old.items last → IfOk result (λ longer. AreLongestTo longest.new.items longer) }
@@ -65,7 +69,7 @@ fn with_run(longest: &mut Vec<Run>, last: Run, run: Run) -> Result<Run, NoMemory
 
 /// Two runs as one, where one is empty, or both have one type and 32 bits hold their sum.
 #[tactic(auto, using(crate::proofs::Joining::joining))]
-fn joined(first: Run, second: Run) -> Option<Run>
+fn joined(first: LocalRun, second: LocalRun) -> Option<LocalRun>
     ensures same { IfSome result (λ run. replicate run.count run.ty ≡ replicate first.count first.ty ++ replicate second.count second.ty) }
     ensures some { IfSome result (IsJoined first second) }
     ensures none { IfNone result (AreApart first second) }
@@ -80,7 +84,7 @@ fn joined(first: Run, second: Run) -> Option<Run>
         return None;
     }
     let count = first.count.checked_add(second.count)?;
-    Some(Run {
+    Some(LocalRun {
         count,
         ty: first.ty,
     })

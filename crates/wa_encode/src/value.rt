@@ -5,7 +5,7 @@ ghost use Rattle.wa_syntax.specs.Formats.{byte, u32};
 ghost use Rattle.wa_syntax.specs.Leb128.{Appends};
 ghost use Rattle.wa_encode.specs.Spelling.{IsNumber, IsCounted, Adds, AddsVector, Leaves};
 
-use wa_syntax::{Name, NoMemory, write_u32};
+use wa_syntax::{NoMemory, WasmName, write_u32};
 
 /// A byte (5.2.1), as an opcode (5.4).
 pub fn byte(out: &mut Vec<u8>, value: u8) -> Result<(), NoMemory>
@@ -54,7 +54,7 @@ pub fn bytes(out: &mut Vec<u8>, content: &[u8]) -> Result<(), NoMemory>
 }
 
 /// A name (5.2.4).
-pub fn name(out: &mut Vec<u8>, name: &Name) -> Result<(), NoMemory>
+pub fn name(out: &mut Vec<u8>, name: &WasmName) -> Result<(), NoMemory>
     ensures { OnOk result (Appends IsCounted out.old.items out.new.items name.now) }
 {
     bytes(out, name.as_slice())

@@ -2,17 +2,17 @@
 
 ghost use Rattle.std.specs.Prelude.{◌≡◌, ◌==◌, ◌+◌, ◌-◌, ◌<◌, ◌≤◌, ◌^◌, ◌↔◌, ℕ, List, [], ◌∷◌, ◌++◌, drop, length};
 ghost use Rattle.std.specs.Prelude.{max, nat_le, replicate, reverse, slice_index, OnOk, IfErr, IsErrOf, vec_len};
-ghost use Rattle.wa_region.specs.Frames.{top, with_word};
+ghost use Rattle.wa_stack.specs.Frames.{top, with_word};
 ghost use Rattle.wa_exec.specs.Beginning.{AreNone};
 ghost use Rattle.wa_exec.specs.Activations.{OnTop, HasEntered, HasLeft};
 ghost use Rattle.wa_exec.specs.declared.calls.Caller.{Caller};
-ghost use Rattle.wa_exec.specs.Tells.{IsInside};
+ghost use Rattle.wa_exec.specs.Describes.{IsInside};
 
 use crate::halt::Halt;
 use std::alloc::Global;
-use wa_code::Body;
-use wa_operand::{read, write};
-use wa_region::Region;
+use wa_flatten::FlatFunction;
+use wa_instr::{read, write};
+use wa_stack::FrameStack;
 
 /// The most activations at a time.
 pub(crate) const DEPTH: usize = 40_000;
@@ -26,10 +26,10 @@ pub(crate) struct Caller {
 
 /// The open activations, and where the last one is.
 #[derive(Drop)]
-pub(crate) struct Calls {
+pub(crate) struct CallStack {
     /// The place of the next instruction.
     pub at: usize,
-    pub region: Region,
+    pub region: FrameStack,
     pub callers: Vec<Caller>,
     /// The height of the operands. It is no neighbour of the place, since two that are copied as one wait for both to be written.
     pub height: usize,
@@ -37,7 +37,7 @@ pub(crate) struct Calls {
 
 /// How many words the top frame has.
 #[inline(always)]
-fn top_len(region: &Region) -> usize
+fn top_len(region: &FrameStack) -> usize
     ensures { result ≡ length (top region.now) }
 {
     if region.depth() == 0 {
@@ -48,7 +48,7 @@ fn top_len(region: &Region) -> usize
 
 /// Whether the top frame has so many words from a place on.
 #[inline(always)]
-fn has_words(region: &Region, from: usize, count: u32) -> bool
+fn has_words(region: &FrameStack, from: usize, count: u32) -> bool
     ensures { result ≡ nat_le (from + count) (length (top region.now)) }
 {
     let len = top_len(region);
@@ -57,7 +57,7 @@ fn has_words(region: &Region, from: usize, count: u32) -> bool
 
 /// Opens the frame of a function, whose first words are the top `params` operands of the frame below.
 #[inline(always)]
-fn open_frame(region: &mut Region, from: usize, params: u32, len: u32) -> Result<(), Halt>
+fn open_frame(region: &mut FrameStack, from: usize, params: u32, len: u32) -> Result<(), Halt>
     ensures inside { IfErr result IsInside }
     ensures memory { IfErr result (λ halt. halt ≡ Halt.NoMemory) }
     ensures first { region.old ≡ [] → OnOk result (region.new ≡ replicate (max len params) 0 ∷ []) }
@@ -76,7 +76,7 @@ fn open_frame(region: &mut Region, from: usize, params: u32, len: u32) -> Result
 
 /// Closes the top frame, if there is one.
 #[inline(always)]
-fn close_frame(region: &mut Region)
+fn close_frame(region: &mut FrameStack)
     ensures { region.new ≡ drop 1 region.old }
 {
     if region.depth() == 0 {
@@ -87,7 +87,7 @@ fn close_frame(region: &mut Region)
 
 /// The word of the top frame at a place.
 #[inline]
-fn top_word(region: &Region, at: usize) -> u64
+fn top_word(region: &FrameStack, at: usize) -> u64
     ensures { result ≡ slice_index (top region.now) at }
 {
     if region.depth() == 0 {
@@ -98,7 +98,7 @@ fn top_word(region: &Region, at: usize) -> u64
 
 /// Sets the word of the top frame at a place, if there is one.
 #[inline]
-fn set_top(region: &mut Region, at: usize, word: u64)
+fn set_top(region: &mut FrameStack, at: usize, word: u64)
     ensures set { region.new ≡ with_word region.old at word }
     ensures small { length (top region.old) < 2 ^ 64 }
 {
@@ -108,13 +108,13 @@ fn set_top(region: &mut Region, at: usize, word: u64)
     write(region.top_mut(), at, word);
 }
 
-impl Calls {
-    pub(crate) fn new(alloc: Global) -> Calls
+impl CallStack {
+    pub(crate) fn new(alloc: Global) -> CallStack
         ensures { AreNone result }
     {
-        Calls {
+        CallStack {
             at: 0,
-            region: Region::new(alloc),
+            region: FrameStack::new(alloc),
             callers: Vec::new(alloc),
             height: 0,
         }
@@ -133,7 +133,7 @@ impl Calls {
     ///
     /// `TooDeep` where 40,000 are open, and `NoMemory`.
     #[inline(always)]
-    pub(crate) fn enter(&mut self, body: Body) -> Result<(), Halt>
+    pub(crate) fn enter(&mut self, body: FlatFunction) -> Result<(), Halt>
         ensures ok { OnOk result (vec_len self.new.callers ≡ vec_len self.old.callers + 1) }
         ensures inside { IfErr result IsInside }
         ensures deep { IsErrOf result Halt.TooDeep ↔ (40000 ≤ vec_len self.old.callers) }

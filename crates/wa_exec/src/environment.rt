@@ -1,26 +1,26 @@
 //! The functions of the host: `env.put`, `env.get` and `env.stop`.
 
 ghost use Rattle.std.specs.Prelude.{◌≡◌, ◌≤◌, ◌%◌, ◌^◌, ℕ, List, [], ◌∷◌, ◌++◌, IfErr, IfOk, OnOk, OnErr, IsErrOf, vec_len};
-ghost use Rattle.wa_exec.specs.HandingOn.{HandsOn, HasHandedOn, HasNotGot, Takes};
+ghost use Rattle.wa_exec.specs.HostStreams.{Flushes, HasFlushed, HasNotGot, Takes};
 ghost use Rattle.wa_exec.specs.HostCalls.{HasCalled};
-ghost use Rattle.wa_exec.specs.Outside.{sides};
-ghost use Rattle.sa_outside.specs.Output.{Grew};
-ghost use Rattle.wa_exec.specs.Tells.{Tells, faults_of};
+ghost use Rattle.wa_exec.specs.Interaction.{sides};
+ghost use Rattle.host_io.specs.Output.{Grew};
+ghost use Rattle.wa_exec.specs.Describes.{Describes, faults_of};
 
-use crate::calls::Calls;
+use crate::calls::CallStack;
 use crate::halt::Halt;
 use crate::host::Host;
 use crate::link::HostCall;
-use sa_outside::{Outage, Sink, Source, Take};
-use wa_operand::low;
+use host_io::{Outage, Sink, Source, Take};
+use wa_instr::low;
 
 /// Hands the output on.
-fn hand_on<O: Sink>(host: &mut Host, out: &mut O) -> Result<(), Halt>
-    ensures ok { OnOk result (HandsOn (O.output out.old) (O.output out.new) host.old host.new) }
-    ensures hands { HasHandedOn result (O.output out.old) (O.output out.new) host.old host.new }
+fn flush_host<O: Sink>(host: &mut Host, out: &mut O) -> Result<(), Halt>
+    ensures ok { OnOk result (Flushes (O.output out.old) (O.output out.new) host.old host.new) }
+    ensures hands { HasFlushed result (O.output out.old) (O.output out.new) host.old host.new }
     ensures none { OnOk result (host.new ≡ []) }
-    ensures tells { IfErr result (λ h. (i steps fuel : ℕ)
-        → Tells h (faults_of i (O.faults out.old)) (faults_of i (O.faults out.new)) steps fuel) }
+    ensures reports { IfErr result (λ h. (i steps fuel : ℕ)
+        → Describes h (faults_of i (O.faults out.old)) (faults_of i (O.faults out.new)) steps fuel) }
     ensures count { O.faults out.old ≤ O.faults out.new }
     ensures output { Grew (O.output out.old) (O.output out.new) }
 {
@@ -38,10 +38,10 @@ fn is_due<O: Sink>(byte: u8, host: &Host, out: &O) -> bool {
 
 /// `env.put`: holds the low 8 bits of the argument, and hands the output on where it is due.
 fn put<O: Sink>(word: u64, host: &mut Host, out: &mut O) -> Result<(), Halt>
-    ensures ok { OnOk result (HandsOn (O.output out.old) (O.output out.new) (host.old ++ word % 2 ^ 8 ∷ []) host.new) }
-    ensures hands { HasHandedOn result (O.output out.old) (O.output out.new) (host.old ++ word % 2 ^ 8 ∷ []) host.new }
-    ensures tells { IfErr result (λ h. (i steps fuel : ℕ)
-        → Tells h (faults_of i (O.faults out.old)) (faults_of i (O.faults out.new)) steps fuel) }
+    ensures ok { OnOk result (Flushes (O.output out.old) (O.output out.new) (host.old ++ word % 2 ^ 8 ∷ []) host.new) }
+    ensures hands { HasFlushed result (O.output out.old) (O.output out.new) (host.old ++ word % 2 ^ 8 ∷ []) host.new }
+    ensures reports { IfErr result (λ h. (i steps fuel : ℕ)
+        → Describes h (faults_of i (O.faults out.old)) (faults_of i (O.faults out.new)) steps fuel) }
     ensures count { O.faults out.old ≤ O.faults out.new }
     ensures output { Grew (O.output out.old) (O.output out.new) }
 {
@@ -50,7 +50,7 @@ fn put<O: Sink>(word: u64, host: &mut Host, out: &mut O) -> Result<(), Halt>
         return Err(Halt::NoMemory);
     }
     if is_due(byte, host, out) {
-        hand_on(host, out)
+        flush_host(host, out)
     } else {
         Ok(())
     }
@@ -60,16 +60,16 @@ fn put<O: Sink>(word: u64, host: &mut Host, out: &mut O) -> Result<(), Halt>
 fn get<I: Source, O: Sink>(host: &mut Host, input: &mut I, out: &mut O) -> Result<u64, Halt>
     ensures ok { IfOk result (λ word. Takes (sides (I.input input.old) (I.ended input.old) (O.output out.old))
         (sides (I.input input.new) (I.ended input.new) (O.output out.new)) word
-        × HandsOn (O.output out.old) (O.output out.new) host.old host.new) }
+        × Flushes (O.output out.old) (O.output out.new) host.old host.new) }
     ensures fails { IfErr result (λ h. HasNotGot h (sides (I.input input.old) (I.ended input.old) (O.output out.old))
         (sides (I.input input.new) (I.ended input.new) (O.output out.new)) host.old host.new) }
-    ensures tells { IfErr result (λ h. (steps fuel : ℕ)
-        → Tells h (faults_of (I.faults input.old) (O.faults out.old)) (faults_of (I.faults input.new) (O.faults out.new)) steps fuel) }
+    ensures reports { IfErr result (λ h. (steps fuel : ℕ)
+        → Describes h (faults_of (I.faults input.old) (O.faults out.old)) (faults_of (I.faults input.new) (O.faults out.new)) steps fuel) }
     ensures source { I.faults input.old ≤ I.faults input.new }
     ensures sink { O.faults out.old ≤ O.faults out.new }
     ensures output { Grew (O.output out.old) (O.output out.new) }
 {
-    hand_on(host, out)?;
+    flush_host(host, out)?;
     match input.take() {
         Take::Byte(byte) => Ok(u64::from(byte)),
         Take::End => Ok(u64::from(u32::MAX)),
@@ -80,13 +80,13 @@ fn get<I: Source, O: Sink>(host: &mut Host, input: &mut I, out: &mut O) -> Resul
 /// Calls a function of the host, whose arguments are the top operands. Gives the halt, if it halts the run.
 pub(crate) fn call_host<I: Source, O: Sink>(
     call: HostCall,
-    calls: &mut Calls,
+    calls: &mut CallStack,
     host: &mut Host,
     input: &mut I,
     out: &mut O,
 ) -> Result<(), Halt>
-    ensures tells { IfErr result (λ h. (steps fuel : ℕ)
-        → Tells h (faults_of (I.faults input.old) (O.faults out.old)) (faults_of (I.faults input.new) (O.faults out.new)) steps fuel) }
+    ensures reports { IfErr result (λ h. (steps fuel : ℕ)
+        → Describes h (faults_of (I.faults input.old) (O.faults out.old)) (faults_of (I.faults input.new) (O.faults out.new)) steps fuel) }
     ensures source { I.faults input.old ≤ I.faults input.new }
     ensures sink { O.faults out.old ≤ O.faults out.new }
     ensures output { Grew (O.output out.old) (O.output out.new) }

@@ -6,7 +6,7 @@ ghost use Rattle.wa_exec.specs.Links.{not_instantiated};
 
 use std::alloc::{AllocError, AllocFailed};
 use thiserror::Error;
-use wa_code::InstanceFault;
+use wa_flatten::InstanceFault;
 use wa_syntax::{NoMemory, TrapKind};
 
 /// How a call of [`Machine::step_until`](crate::Machine::step_until) ended.

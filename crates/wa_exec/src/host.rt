@@ -1,10 +1,10 @@
 //! The output of a module that is held and not handed on yet.
 
 ghost use Rattle.std.specs.Prelude.{◌≡◌, ◌≤◌, [], ◌∷◌, ◌++◌, IfOk, IsOk, OnOk, OnErr, IsErrOf};
-ghost use Rattle.sa_outside.specs.Faults.{Rose};
-ghost use Rattle.sa_outside.specs.Output.{Took, TookFront};
+ghost use Rattle.host_io.specs.Faults.{Rose};
+ghost use Rattle.host_io.specs.Output.{Took, TookFront};
 
-use sa_outside::{Outage, Sink};
+use host_io::{Outage, Sink};
 use std::alloc::Global;
 use std::marker::Model;
 use wa_syntax::NoMemory;

@@ -2,14 +2,14 @@
 
 ghost use Rattle.std.specs.Prelude.{◌≡◌, None};
 ghost use Rattle.wa_exec.specs.Law.{AreOneRun, Called, between};
-ghost use Rattle.wa_exec.specs.Outside.{sides};
+ghost use Rattle.wa_exec.specs.Interaction.{sides};
 ghost use Rattle.wa_exec.specs.Progress.{Runs};
 ghost use Rattle.wa_syntax.specs.declared.module.Module.{Module};
 
 use crate::halt::Halt;
 use crate::host::Host;
 use crate::machine::Machine;
-use sa_outside::{Sink, Source};
+use host_io::{Sink, Source};
 use wa_syntax::Module;
 
 /// All calls of `step_until` on a machine, with whatever fuels, are together one run.

@@ -3,7 +3,7 @@
 
 ghost use Rattle.std.specs.Prelude.{◌≡◌, ◌≤◌, ◌++◌, ◌||◌, [], ◌∷◌, if◌then◌else◌, bytes_eq, codes, count_by, slice_get};
 ghost use Rattle.std.specs.Prelude.{IfOk, IfErr, IfSome, IsNone, Some, None, length, map, option_map};
-ghost use Rattle.wa_code.specs.Codes.{are_same};
+ghost use Rattle.wa_flatten.specs.Codes.{are_same};
 ghost use Rattle.wa_exec.specs.Halted.{begins_before};
 ghost use Rattle.wa_exec.specs.Links.{Names, function_of, host_called};
 ghost use Rattle.wa_syntax.specs.declared.module.ValTy.TheVariants.{I32};
@@ -12,7 +12,7 @@ ghost use Rattle.wa_syntax.specs.Runs.{is_main, main_of, or_main, unlinked};
 
 use crate::halt::StartFault;
 use std::alloc::Global;
-use wa_code::{Body, Code};
+use wa_flatten::{Code, FlatFunction};
 use wa_syntax::{Export, ExportKind, FuncTy, Import, ImportKind, Module, NoMemory, ValTy};
 
 /// A function of the host: `env.put`, `env.get` or `env.stop`.
@@ -25,26 +25,26 @@ pub(crate) enum HostCall {
 
 /// What is called.
 #[derive(Clone, Copy)]
-pub(crate) enum Callee {
+pub(crate) enum ActivationCallee {
     Host(HostCall),
-    Own(Body),
+    Own(FlatFunction),
 }
 
 /// A module's code, and what its functions are, by their numbers.
 #[derive(Drop)]
 pub(crate) struct Linked {
     pub code: Code,
-    pub callees: Vec<Callee>,
+    pub callees: Vec<ActivationCallee>,
 }
 
 impl Linked {
     /// The code of a module whose imports are these functions of the host.
-    pub(crate) fn new(code: Code, mut callees: Vec<Callee>) -> Result<Linked, NoMemory>
+    pub(crate) fn new(code: Code, mut callees: Vec<ActivationCallee>) -> Result<Linked, NoMemory>
         ensures code { IfOk result (λ linked. linked.code ≡ code) }
-        ensures callees { IfOk result (λ linked. linked.callees.items ≡ callees.items ++ map Callee.Own code.bodies.items) }
+        ensures callees { IfOk result (λ linked. linked.callees.items ≡ callees.items ++ map ActivationCallee.Own code.bodies.items) }
     {
         for body in code.bodies.as_slice() {
-            callees.push(Callee::Own(*body))?;
+            callees.push(ActivationCallee::Own(*body))?;
         }
         Ok(Linked { code, callees })
     }
@@ -74,12 +74,12 @@ impl Linked {
 }
 
 /// Whether a function begins in front of a place of the code, as each one of the host does, which has none of it.
-fn begins_before(callee: &Callee, at: usize) -> bool
+fn begins_before(callee: &ActivationCallee, at: usize) -> bool
     ensures { result ≡ begins_before at callee.now }
 {
     match callee {
-        Callee::Host(_) => true,
-        Callee::Own(body) => (body.entry as usize) < at,
+        ActivationCallee::Host(_) => true,
+        ActivationCallee::Own(body) => (body.entry as usize) < at,
     }
 }
 
@@ -149,7 +149,7 @@ fn host_function(m: &Module, import: &Import, ty: u32) -> Option<HostCall>
 /// # Errors
 ///
 /// `Unlinked` with the number of the first import that is none of them, and `NoMemory`.
-pub(crate) fn imported(alloc: Global, m: &Module) -> Result<Vec<Callee>, StartFault>
+pub(crate) fn imported(alloc: Global, m: &Module) -> Result<Vec<ActivationCallee>, StartFault>
     ensures callees { IfOk result (λ callees. map host_called callees.items ≡ map (host_of m.now) m.now.imports) }
     ensures linked { IfOk result (λ callees. unlinked m.now ≡ or_main m.now None) }
     ensures unlinked { IfErr result (Names (unlinked m.now)) }
@@ -159,7 +159,7 @@ pub(crate) fn imported(alloc: Global, m: &Module) -> Result<Vec<Callee>, StartFa
         let Some(call) = host_call(m, import) else {
             return Err(unlinked(at));
         };
-        callees.push(Callee::Host(call))?;
+        callees.push(ActivationCallee::Host(call))?;
     }
     Ok(callees)
 }

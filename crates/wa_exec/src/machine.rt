@@ -5,28 +5,28 @@ ghost use Rattle.wa_exec.specs.Beginning.{IsBeginning};
 ghost use Rattle.wa_exec.specs.Goes.{first};
 ghost use Rattle.wa_exec.specs.Halted.{halted_in};
 ghost use Rattle.wa_exec.specs.Linking.{flat_of};
-ghost use Rattle.wa_exec.specs.Machines.{Stands};
-ghost use Rattle.wa_exec.specs.Outside.{Makes, sides};
+ghost use Rattle.wa_exec.specs.Machines.{Represents};
+ghost use Rattle.wa_exec.specs.Interaction.{Makes, sides};
 ghost use Rattle.wa_exec.specs.Progress.{Runs, Stays, halted};
 ghost use Rattle.wa_exec.specs.declared.halt.Halt.{Halt};
-ghost use Rattle.wa_code.specs.Codes.{row_of};
+ghost use Rattle.wa_flatten.specs.Codes.{layout_of};
 ghost use Rattle.wa_syntax.specs.Machine.{Input};
 ghost use Rattle.wa_syntax.specs.declared.module.Module.{Module};
-ghost use Rattle.sa_outside.specs.Output.{Grew};
+ghost use Rattle.host_io.specs.Output.{Grew};
 ghost use Rattle.wa_exec.specs.Links.{IsUnfit, IsUnstartable};
 ghost use Rattle.wa_syntax.specs.Runs.{IsLinked, SegmentsFit};
-ghost use Rattle.wa_exec.specs.Tells.{Tells, faults_of};
+ghost use Rattle.wa_exec.specs.Describes.{Describes, faults_of};
 
-use crate::calls::Calls;
+use crate::calls::CallStack;
 use crate::halt::{Halt, StartFault};
 use crate::host::Host;
 use crate::link::{Linked, imported, main_of};
 use crate::run::run;
 use crate::state::State;
-use sa_outside::{Sink, Source};
+use host_io::{Sink, Source};
 use std::alloc::Global;
 use std::marker::Model;
-use wa_code::{Code, Instance, segments_fit};
+use wa_flatten::{Code, ModuleInstance, segments_fit};
 use wa_syntax::{Module, NoMemory};
 use wa_valid::Valid;
 
@@ -58,7 +58,7 @@ impl Machine {
         ensures first { IfOk result (λ machine. (machine.steps ≡ 0) × (machine.halt ≡ None)) }
         ensures runs { IfOk result (λ machine. Runs v.now machine) }
         ensures begins { IfOk result (λ machine. (input : Input)
-            → Stands v.now (row_of machine.linked.code) (flat_of machine.state) (first v.now input)) }
+            → Represents v.now (layout_of machine.linked.code) (flat_of machine.state) (first v.now input)) }
         ensures linked { OnOk result (IsLinked v.now) }
         ensures fit { OnOk result (SegmentsFit v.now) }
         ensures refused { IfErr result (IsUnstartable v.now) }
@@ -121,13 +121,13 @@ impl Machine {
         ensures halted { self.old.halt ≡ None → self.new.halt ≡ halted result }
         ensures runs { (m : Module) → Runs m self.old → result ≢ Halt.NoMemory → Runs m self.new }
         ensures makes { (m : Module) → Runs m self.old → self.old.halt ≡ None → self.old.steps ≤ fuel
-            → Makes m (row_of self.old.linked.code) (flat_of self.old.state) (flat_of self.new.state) self.old.steps
+            → Makes m (layout_of self.old.linked.code) (flat_of self.old.state) (flat_of self.new.state) self.old.steps
             self.new.steps (Some result) (sides (I.input input.old) (I.ended input.old) (O.output out.old))
             (sides (I.input input.new) (I.ended input.new) (O.output out.new)) host.old host.new }
         ensures steps { self.old.steps ≤ self.new.steps }
         ensures within { self.new.steps ≤ max self.old.steps fuel }
-        ensures tells { self.old.halt ≡ None
-            → Tells result (faults_of (I.faults input.old) (O.faults out.old))
+        ensures reports { self.old.halt ≡ None
+            → Describes result (faults_of (I.faults input.old) (O.faults out.old))
             (faults_of (I.faults input.new) (O.faults out.new)) self.new.steps fuel }
         ensures source { I.faults input.old ≤ I.faults input.new }
         ensures sink { O.faults out.old ≤ O.faults out.new }
@@ -209,14 +209,14 @@ fn beginning(alloc: Global, v: &Valid, main: u32) -> Result<State, StartFault>
     ensures segment { IfErr result (IsUnfit v.now) }
 {
     let waiting = waiting(alloc, v.module(), main)?;
-    let Instance {
+    let ModuleInstance {
         globals,
         table,
         bytes,
         most_pages,
-    } = Instance::new(alloc, v)?;
+    } = ModuleInstance::new(alloc, v)?;
     Ok(State {
-        calls: Calls::new(alloc),
+        calls: CallStack::new(alloc),
         waiting,
         value: None,
         globals,

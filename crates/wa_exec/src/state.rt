@@ -2,32 +2,32 @@
 
 ghost use Rattle.std.specs.Prelude.{◌≡◌, ℕ, ◌*◌, ◌%◌, ◌^◌, ◌≤◌, max, true, List, ◌∷◌, length, vec_len};
 ghost use Rattle.wa_exec.specs.Activations.{OnTop};
-ghost use Rattle.wa_exec.specs.Goes.{Standing, Safe};
+ghost use Rattle.wa_exec.specs.Goes.{Config, Safe};
 ghost use Rattle.wa_exec.specs.Linking.{flat_of};
-ghost use Rattle.wa_exec.specs.Machines.{Stands};
+ghost use Rattle.wa_exec.specs.Machines.{Represents};
 ghost use Rattle.wa_exec.specs.States.{HasGrown, HasLookedUp, HasRun, KeepsOthers};
-ghost use Rattle.wa_exec.specs.Stretch.{IsPaid};
-ghost use Rattle.wa_code.specs.Codes.{row_of};
+ghost use Rattle.wa_exec.specs.ActivationExit.{IsPaid};
+ghost use Rattle.wa_flatten.specs.Codes.{layout_of};
 ghost use Rattle.wa_syntax.specs.Operations.{page};
 ghost use Rattle.wa_syntax.specs.declared.module.Module.{Module};
 
-use crate::activation::{Pause, Stretch, pages, run_activation};
-use crate::calls::Calls;
+use crate::activation::{ActivationExit, PauseReason, pages, run_activation};
+use crate::calls::CallStack;
 use crate::link::Linked;
-use wa_code::{Code, PAGE, Table};
-use wa_operand::low;
+use wa_flatten::{Code, PAGE, TableInstance};
+use wa_instr::low;
 use wa_syntax::TrapKind;
 
 /// What a run changes.
 #[derive(Drop)]
 pub(crate) struct State {
-    pub calls: Calls,
+    pub calls: CallStack,
     /// The functions that are to be run one after another, the next one last: `main`, and above it the start function.
     pub waiting: Vec<u32>,
     /// What the last of them returned.
     pub value: Option<u64>,
     pub globals: Vec<u64>,
-    pub table: Table,
+    pub table: TableInstance,
     pub bytes: Vec<u8>,
     /// The most pages that the memory may have.
     pub most_pages: usize,
@@ -36,13 +36,13 @@ pub(crate) struct State {
 impl State {
     /// Runs the instructions of the last activation. Where none is open, there is nothing to run.
     #[inline(always)]
-    pub(crate) fn run(&mut self, code: &Code, before: u64, fuel: u64) -> Stretch
+    pub(crate) fn run(&mut self, code: &Code, before: u64, fuel: u64) -> ActivationExit
         ensures steps { before ≤ result.steps }
         ensures within { result.steps ≤ max before fuel }
         ensures paid { IsPaid result.pause before result.steps fuel }
-        ensures run { (m : Module) (frame : List ℕ) (frames : List (List ℕ)) (s : Standing)
-            → Stands m (row_of code.now) (flat_of self.old) s → Safe m s → self.old.calls.region ≡ frame ∷ frames
-            → HasRun m (row_of code.now) self.old self.new frame frames s before fuel result.steps result.pause }
+        ensures run { (m : Module) (frame : List ℕ) (frames : List (List ℕ)) (s : Config)
+            → Represents m (layout_of code.now) (flat_of self.old) s → Safe m s → self.old.calls.region ≡ frame ∷ frames
+            → HasRun m (layout_of code.now) self.old self.new frame frames s before fuel result.steps result.pause }
         ensures others { KeepsOthers self.old self.new }
         ensures calls { vec_len self.new.calls.callers ≡ vec_len self.old.calls.callers }
         ensures waiting { vec_len self.new.waiting ≡ vec_len self.old.waiting }
@@ -50,11 +50,11 @@ impl State {
         let at = self.calls.at;
         let height = self.calls.height;
         if self.calls.region.depth() == 0 {
-            return Stretch {
+            return ActivationExit {
                 at,
                 height,
                 steps: before,
-                pause: Pause::Returned(None),
+                pause: PauseReason::Returned(None),
             };
         }
         let stretch = run_activation(

@@ -9,13 +9,13 @@ use Rattle.wa_exec.specs.declared.halt.StartFault.TheVariants as start
 use Rattle.wa_exec.specs.Links.{IsUnstartable}
 use Rattle.wa_run.specs.Answers.{IsBeforeRun, answer_of_start}
 use Rattle.wa_run.specs.declared.answer.Answer.TheVariants as answer
-use Rattle.wa_run.specs.declared.module_run.Run.{Run}
+use Rattle.wa_run.specs.declared.module_run.RunResult.{RunResult}
 use Rattle.wa_run.specs.Modules.{SaysOf}
 use Rattle.wa_run.specs.Runs.{HasRun, HasRunModule, Streams}
 use Rattle.wa_run.proofs.Runs.{passed-spelled}
 
 -- its run
-pub run-spelled : (bytes : List ℕ) (m : Module) (fuel : ℕ) (run : Run) (before after : Streams) → SpellsModule bytes m → HasRunModule m fuel run before after → HasRun bytes fuel run before after
+pub run-spelled : (bytes : List ℕ) (m : Module) (fuel : ℕ) (run : RunResult) (before after : Streams) → SpellsModule bytes m → HasRunModule m fuel run before after → HasRun bytes fuel run before after
 run-spelled bytes m fuel run before after spelled = passed-spelled bytes m fuel run before after (λ n other. one-module bytes n m other spelled)
 
 -- why it can't be started

@@ -6,22 +6,22 @@ use Rattle.wa_syntax.specs.ValidModule.{IsValid}
 use Rattle.wa_decode.proofs.OneModule.{one-module}
 use Rattle.wa_run.specs.declared.answer.Answer.{Answer}
 use Rattle.wa_run.specs.declared.answer.Answer.TheVariants as answer
-use Rattle.wa_run.specs.declared.module_run.Run.{Run}
+use Rattle.wa_run.specs.declared.module_run.RunResult.{RunResult}
 use Rattle.wa_run.specs.Modules.{SaysOfValid}
 use Rattle.wa_run.specs.Runs.{HasRunModule, IsAnswered, Streams}
 use Rattle.wa_run.specs.Within.{HasRunWithin, SaysOfWithin, within}
 
 -- its run
-pub run-within : (pages : ℕ) (bytes : List ℕ) (m n : Module) (fuel : ℕ) (run : Run) (before after : Streams) → SpellsModule bytes m → n ≡ within pages m → HasRunModule n fuel run before after → HasRunWithin pages bytes fuel run before after
+pub run-within : (pages : ℕ) (bytes : List ℕ) (m n : Module) (fuel : ℕ) (run : RunResult) (before after : Streams) → SpellsModule bytes m → n ≡ within pages m → HasRunModule n fuel run before after → HasRunWithin pages bytes fuel run before after
 run-within pages bytes m n fuel run before after spelled is passed = record {
   answers = passed.answers;
   gave = passed.gave;
   read = passed.read;
-  handed = passed.handed;
+  delivered = passed.delivered;
   took = passed.took;
   holds = λ other too.
       let same : n ≡ within pages other = is ∙ ap (within pages) (sym (one-module bytes other m too spelled)) in
-      subst (λ (x : Module). IsAnswered x passed.answers passed.handed fuel run.answer run.steps) same passed.holds;
+      subst (λ (x : Module). IsAnswered x passed.answers passed.delivered fuel run.answer run.steps) same passed.holds;
 }
 
 -- what an answer says

@@ -31,10 +31,10 @@ IsBeforeRun answer.Segment = ⊤
 IsBeforeRun _ = ⊥
 
 -- a fault is answered only where this says that the source or the sink had one
-abbrev pub IsTold : Answer → Type 0 → Type 0 → Type 0
-IsTold answer.InFault input_failed out_failed = input_failed
-IsTold answer.OutFault input_failed out_failed = out_failed
-IsTold _ input_failed out_failed = ⊤
+abbrev pub IsFaultReported : Answer → Type 0 → Type 0 → Type 0
+IsFaultReported answer.InFault input_failed out_failed = input_failed
+IsFaultReported answer.OutFault input_failed out_failed = out_failed
+IsFaultReported _ input_failed out_failed = ⊤
 
 -- the sink failed, as this says, or memory ran out
 abbrev pub IsOutage : Answer → Type 0 → Type 0

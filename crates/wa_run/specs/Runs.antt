@@ -1,18 +1,18 @@
 -- What an answer says of the run of the standard's machine.
 use Rattle.std.specs.Prelude.{◌≡◌, ◌≢◌, ℕ, ◌≤◌, ◌⊎◌, List, [], ◌++◌, Option, Some, None, option_map}
-use Rattle.sa_outside.specs.declared.source.Take.{Take}
-use Rattle.sa_outside.specs.Input as source
-use Rattle.sa_outside.specs.Output.{Took, TookFront}
+use Rattle.host_io.specs.declared.source.Take.{Take}
+use Rattle.host_io.specs.Input as source
+use Rattle.host_io.specs.Output.{Took, TookFront}
 use Rattle.wa_syntax.specs.declared.module.Module.{Module}
 use Rattle.wa_syntax.specs.Binary.{SpellsModule}
 use Rattle.wa_syntax.specs.Machine.{Input, Halt}
 use Rattle.wa_syntax.specs.Machine as standard
 use Rattle.wa_syntax.specs.Runs.{machine_run}
-use Rattle.wa_exec.specs.Outside.{Any}
+use Rattle.wa_exec.specs.Interaction.{Any}
 use Rattle.wa_exec.specs.Reading.{Gave, AreRead, Reads, Fails, input_left}
 use Rattle.wa_run.specs.declared.answer.Answer.{Answer}
 use Rattle.wa_run.specs.declared.answer.Answer.TheVariants as answer
-use Rattle.wa_run.specs.declared.module_run.Run.{Run}
+use Rattle.wa_run.specs.declared.module_run.RunResult.{RunResult}
 
 -- what an input has left and what an output has taken, where they tell
 pub record Streams : Type 0 where
@@ -22,13 +22,13 @@ pub record Streams : Type 0 where
 abbrev pub streams : Option source.Input → Option (List ℕ) → Streams
 streams input output = record { input = input; output = output }
 
-module _ (m : Module) (answers : List Take) (handed : List ℕ) where
+module _ (m : Module) (answers : List Take) (delivered : List ℕ) where
   -- whatever input gives these answers and goes on so, the run within so many instructions ends so and reads just these answers,
   -- and what was handed on is its output
   abbrev pub IsRun : (fuel : ℕ) → Halt → (steps : ℕ) → (Comes : Input → Type 0) → Type 0
   IsRun fuel halt steps Comes =
       (input rest : Input) → Reads input answers rest → Comes rest →
-      (machine_run m input fuel ≡ record { halt = halt; steps = steps; output = handed }) × (input_left m input fuel ≡ rest)
+      (machine_run m input fuel ≡ record { halt = halt; steps = steps; output = delivered }) × (input_left m input fuel ≡ rest)
 
   -- whatever input gives these answers, a run of so many instructions or more reads them first, and its output begins with what was
   -- handed on
@@ -36,11 +36,11 @@ module _ (m : Module) (answers : List Take) (handed : List ℕ) where
   IsFront steps =
       (input rest : Input) (most : ℕ) → Reads input answers rest → steps ≤ most →
       ((further : List Take) × Reads rest further (input_left m input most))
-      × ((more : List ℕ) × ((machine_run m input most).output ≡ handed ++ more))
+      × ((more : List ℕ) × ((machine_run m input most).output ≡ delivered ++ more))
 
   -- nothing is read and nothing handed on
   abbrev pub IsNothing : Type 0
-  IsNothing = (answers ≡ []) × (handed ≡ [])
+  IsNothing = (answers ≡ []) × (delivered ≡ [])
 
   -- by the answer, with so much fuel and after so many steps
   abbrev pub IsAnswered : (fuel : ℕ) → Answer → (steps : ℕ) → Type 0
@@ -58,22 +58,22 @@ module _ (m : Module) (answers : List Take) (handed : List ℕ) where
   IsAnswered fuel answer.NoMemory steps = IsFront steps
 
 -- the source gave answers, as some input does, and the sink took bytes, and this holds of them
-pub record Passed (before after : Streams) (Holds : (answers : List Take) → (handed : List ℕ) → Type 0) : Type 0 where
+pub record Transcript (before after : Streams) (Holds : (answers : List Take) → (delivered : List ℕ) → Type 0) : Type 0 where
   pub answers : List Take
   pub gave : Gave answers before.input after.input
   pub read : AreRead answers
-  pub handed : List ℕ
-  pub took : Took before.output after.output handed
-  pub holds : Holds answers handed
+  pub delivered : List ℕ
+  pub took : Took before.output after.output delivered
+  pub holds : Holds answers delivered
 
 -- what the run of a module was
-abbrev pub HasRunModule : Module → (fuel : ℕ) → Run → (before after : Streams) → Type 0
-HasRunModule m fuel run before after = Passed before after (λ answers handed. IsAnswered m answers handed fuel run.answer run.steps)
+abbrev pub HasRunModule : Module → (fuel : ℕ) → RunResult → (before after : Streams) → Type 0
+HasRunModule m fuel run before after = Transcript before after (λ answers delivered. IsAnswered m answers delivered fuel run.answer run.steps)
 
 -- what the run of the module that the bytes spell was
-abbrev pub HasRun : (bytes : List ℕ) → (fuel : ℕ) → Run → (before after : Streams) → Type 0
+abbrev pub HasRun : (bytes : List ℕ) → (fuel : ℕ) → RunResult → (before after : Streams) → Type 0
 HasRun bytes fuel run before after =
-    Passed before after (λ answers handed. (m : Module) → SpellsModule bytes m → IsAnswered m answers handed fuel run.answer run.steps)
+    Transcript before after (λ answers delivered. (m : Module) → SpellsModule bytes m → IsAnswered m answers delivered fuel run.answer run.steps)
 
 -- ---- where the source tells what it has left
 
@@ -91,22 +91,22 @@ abbrev pub input_of : source.Input → Input
 input_of given = record { bytes = given.left; ends = None }
 
 -- the run is that of the standard over the bytes that the source has left, of which it leaves the same, and the sink takes its output
-abbrev pub ToldModule : Module → (fuel : ℕ) → Run → (before after : Streams) → Type 0
-ToldModule m fuel run before after =
+abbrev pub IsStandardModuleRun : Module → (fuel : ℕ) → RunResult → (before after : Streams) → Type 0
+IsStandardModuleRun m fuel run before after =
     (given : source.Input) (halt : Halt) → before.input ≡ Some given → halt_of run.answer ≡ Some halt →
     let whole = machine_run m (input_of given) fuel in
     (whole.halt ≡ halt) × (whole.steps ≡ run.steps) × Took before.output after.output whole.output
     × (option_map (λ (i : source.Input). i.left) after.input ≡ Some (input_left m (input_of given) fuel).bytes)
 
 -- so of the module that the bytes spell
-abbrev pub Told : (bytes : List ℕ) → (fuel : ℕ) → Run → (before after : Streams) → Type 0
-Told bytes fuel run before after = (m : Module) → SpellsModule bytes m → ToldModule m fuel run before after
+abbrev pub IsStandardRun : (bytes : List ℕ) → (fuel : ℕ) → RunResult → (before after : Streams) → Type 0
+IsStandardRun bytes fuel run before after = (m : Module) → SpellsModule bytes m → IsStandardModuleRun m fuel run before after
 
 -- ---- the output that is held at the end
 
 -- the bytes that are held are handed on, and the answer stays; or the sink takes a front of them alone
-abbrev pub IsHandedOn : (given result : Answer) → (held : List ℕ) → (before after : Option (List ℕ)) → Type 0
-IsHandedOn given result held before after =
+abbrev pub IsFlushed : (given result : Answer) → (held : List ℕ) → (before after : Option (List ℕ)) → Type 0
+IsFlushed given result held before after =
     ((result ≡ given) × Took before after held)
     ⊎ ((held ≢ []) × ((result ≡ answer.OutFault) ⊎ (result ≡ answer.NoMemory)) × TookFront before after held)
 
@@ -114,4 +114,4 @@ IsHandedOn given result held before after =
 abbrev pub IsClosed : (given result : Answer) → (held : List ℕ) → (before after : Option (List ℕ)) → Type 0
 IsClosed answer.OutFault result held before after = (result ≡ answer.OutFault) × (after ≡ before)
 IsClosed answer.NoMemory result held before after = (result ≡ answer.NoMemory) × (after ≡ before)
-IsClosed given result held before after = IsHandedOn given result held before after
+IsClosed given result held before after = IsFlushed given result held before after

@@ -8,10 +8,10 @@ use Rattle.wa_syntax.specs.ValidModule.{IsValid}
 use Rattle.wa_valid.specs.declared.fault.ValidFault.TheVariants as valid
 use Rattle.wa_valid.specs.Verdict.{IsRefused}
 use Rattle.wa_run.specs.Modules.{SaysOfValid}
-use Rattle.wa_run.specs.Runs.{IsAnswered, Passed, Streams}
+use Rattle.wa_run.specs.Runs.{IsAnswered, Transcript, Streams}
 use Rattle.wa_run.specs.declared.answer.Answer.{Answer}
 use Rattle.wa_run.specs.declared.answer.Answer.TheVariants as answer
-use Rattle.wa_run.specs.declared.module_run.Run.{Run}
+use Rattle.wa_run.specs.declared.module_run.RunResult.{RunResult}
 
 -- limits of at most so many pages
 abbrev pub limits_within : ℕ → Limits → Limits
@@ -34,7 +34,7 @@ SaysOfWithin pages bytes answer.NoMemory = ⊤
 SaysOfWithin pages bytes answer = SaysOfSpelledWithin pages bytes answer
 
 -- what the run of the module that the bytes spell was, with such a memory
-abbrev pub HasRunWithin : ℕ → (bytes : List ℕ) → (fuel : ℕ) → Run → (before after : Streams) → Type 0
+abbrev pub HasRunWithin : ℕ → (bytes : List ℕ) → (fuel : ℕ) → RunResult → (before after : Streams) → Type 0
 HasRunWithin pages bytes fuel run before after =
-    Passed before after
-    (λ answers handed. (m : Module) → SpellsModule bytes m → IsAnswered (within pages m) answers handed fuel run.answer run.steps)
+    Transcript before after
+    (λ answers delivered. (m : Module) → SpellsModule bytes m → IsAnswered (within pages m) answers delivered fuel run.answer run.steps)

@@ -9,5 +9,5 @@ mod within;
 
 pub use answer::{Answer, answer_of_halt, answer_of_start};
 pub use load::runnable;
-pub use module_run::{Run, handed_on, run_bytes, run_module};
+pub use module_run::{RunResult, answer_after_flush, run_bytes, run_module};
 pub use within::run_within;

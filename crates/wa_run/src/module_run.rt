@@ -1,15 +1,15 @@
 //! The run of a module.
 
 ghost use Rattle.std.specs.Prelude.{◌≡◌, ◌<◌, ◌≤◌, ◌⊎◌, [], None, length};
-ghost use Rattle.sa_outside.specs.Faults.{Rose};
-ghost use Rattle.sa_outside.specs.Output.{Grew};
-ghost use Rattle.wa_run.specs.Answers.{IsBeforeRun, IsOutage, IsTold};
+ghost use Rattle.host_io.specs.Faults.{Rose};
+ghost use Rattle.host_io.specs.Output.{Grew};
+ghost use Rattle.wa_run.specs.Answers.{IsBeforeRun, IsOutage, IsFaultReported};
 ghost use Rattle.wa_run.specs.Modules.{SaysOf, SaysOfValid};
-ghost use Rattle.wa_run.specs.Runs.{HasRun, HasRunModule, IsClosed, Told, ToldModule, streams};
-ghost use Rattle.wa_code.specs.Codes.{row_of};
+ghost use Rattle.wa_run.specs.Runs.{HasRun, HasRunModule, IsClosed, IsStandardRun, IsStandardModuleRun, streams};
+ghost use Rattle.wa_flatten.specs.Codes.{layout_of};
 ghost use Rattle.wa_exec.specs.Goes.{first};
 ghost use Rattle.wa_exec.specs.Linking.{flat_of};
-ghost use Rattle.wa_exec.specs.Machines.{Stands};
+ghost use Rattle.wa_exec.specs.Machines.{Represents};
 ghost use Rattle.wa_exec.specs.Progress.{Runs};
 ghost use Rattle.wa_syntax.specs.Machine.{Input};
 ghost use Rattle.wa_syntax.specs.Runs.{IsLinked, SegmentsFit};
@@ -18,14 +18,14 @@ ghost use Rattle.wa_syntax.specs.declared.module.Module.{Module};
 
 use crate::answer::{Answer, answer_of_halt, answer_of_start};
 use crate::load::load;
-use sa_outside::{Outage, Sink, Source};
+use host_io::{Outage, Sink, Source};
 use std::alloc::Global;
 use wa_exec::{Host, Machine};
 use wa_valid::Valid;
 
 /// The answer of a run, how many steps the machine made, and in which function it ended.
 #[derive(Clone, Copy, Debug, PartialEq, Eq)]
-pub struct Run {
+pub struct RunResult {
     pub answer: Answer,
     pub steps: u64,
     /// The function whose instruction ended the run, by a trap or by a call that is too deep, where one did: its number among all
@@ -41,12 +41,12 @@ pub fn run_bytes<I: Source, O: Sink>(
     fuel: u64,
     input: &mut I,
     out: &mut O,
-) -> Run
+) -> RunResult
     requires size { length bytes.now < 4294967295 }
     // Malformed, Invalid, Unlinked and Segment come exactly where the standard says.
     ensures says { SaysOf bytes.now result.answer }
     // A fault is answered only where the source or the sink counted one, and Spent only at the fuel.
-    ensures told { IsTold result.answer (Rose (I.faults input.old) (I.faults input.new)) (Rose (O.faults out.old) (O.faults out.new)) }
+    ensures reported { IsFaultReported result.answer (Rose (I.faults input.old) (I.faults input.new)) (Rose (O.faults out.old) (O.faults out.new)) }
     ensures spent { result.answer ≡ Answer.Spent → result.steps ≡ fuel }
     ensures within { result.steps ≤ fuel }
     // What out has is after what it had, and nothing where the answer comes before the run.
@@ -58,12 +58,12 @@ pub fn run_bytes<I: Source, O: Sink>(
     ensures ran { HasRun bytes.now fuel result (streams (I.input input.old) (O.output out.old))
         (streams (I.input input.new) (O.output out.new)) }
     // Over a source that says what it has left, the run is the standard's over these bytes.
-    ensures whole { Told bytes.now fuel result (streams (I.input input.old) (O.output out.old))
+    ensures whole { IsStandardRun bytes.now fuel result (streams (I.input input.old) (O.output out.old))
         (streams (I.input input.new) (O.output out.new)) }
 {
     match load(alloc, bytes) {
         Ok(valid) => run_module(alloc, &valid, fuel, input, out),
-        Err(answer) => Run {
+        Err(answer) => RunResult {
             answer,
             steps: 0,
             func: None,
@@ -78,10 +78,10 @@ pub fn run_module<I: Source, O: Sink>(
     fuel: u64,
     input: &mut I,
     out: &mut O,
-) -> Run
+) -> RunResult
     requires valid { IsValid valid.now }
     ensures says { SaysOfValid valid.now result.answer }
-    ensures told { IsTold result.answer (Rose (I.faults input.old) (I.faults input.new)) (Rose (O.faults out.old) (O.faults out.new)) }
+    ensures reported { IsFaultReported result.answer (Rose (I.faults input.old) (I.faults input.new)) (Rose (O.faults out.old) (O.faults out.new)) }
     ensures spent { result.answer ≡ Answer.Spent → result.steps ≡ fuel }
     ensures within { result.steps ≤ fuel }
     ensures output { Grew (O.output out.old) (O.output out.new) }
@@ -90,7 +90,7 @@ pub fn run_module<I: Source, O: Sink>(
     ensures sink { O.faults out.old ≤ O.faults out.new }
     ensures ran { HasRunModule valid.now fuel result (streams (I.input input.old) (O.output out.old))
         (streams (I.input input.new) (O.output out.new)) }
-    ensures whole { ToldModule valid.now fuel result (streams (I.input input.old) (O.output out.old))
+    ensures whole { IsStandardModuleRun valid.now fuel result (streams (I.input input.old) (O.output out.old))
         (streams (I.input input.new) (O.output out.new)) }
     // A module that is linked and whose segments fit is run.
     ensures starts { IsLinked valid.now → SegmentsFit valid.now → IsBeforeRun result.answer → ⊥ }
@@ -98,7 +98,7 @@ pub fn run_module<I: Source, O: Sink>(
     let mut host = match Host::new(alloc) {
         Ok(host) => host,
         Err(_no_memory) => {
-            return Run {
+            return RunResult {
                 answer: Answer::NoMemory,
                 steps: 0,
                 func: None,
@@ -107,7 +107,7 @@ pub fn run_module<I: Source, O: Sink>(
     };
     match Machine::new(alloc, valid) {
         Ok(machine) => run_machine(machine, fuel, &mut host, input, out),
-        Err(fault) => Run {
+        Err(fault) => RunResult {
             answer: answer_of_start(fault),
             steps: 0,
             func: None,
@@ -122,10 +122,10 @@ fn run_machine<I: Source, O: Sink>(
     host: &mut Host,
     input: &mut I,
     out: &mut O,
-) -> Run
+) -> RunResult
     requires steps { machine.steps ≡ 0 }
     requires halt { machine.halt ≡ None }
-    ensures told { IsTold result.answer (Rose (I.faults input.old) (I.faults input.new)) (Rose (O.faults out.old) (O.faults out.new)) }
+    ensures reported { IsFaultReported result.answer (Rose (I.faults input.old) (I.faults input.new)) (Rose (O.faults out.old) (O.faults out.new)) }
     ensures spent { result.answer ≡ Answer.Spent → result.steps ≡ fuel }
     ensures within { result.steps ≤ fuel }
     ensures runs { IsBeforeRun result.answer → ⊥ }
@@ -134,12 +134,12 @@ fn run_machine<I: Source, O: Sink>(
     ensures sink { O.faults out.old ≤ O.faults out.new }
     ensures ran { (m : Module)
         → IsValid m → IsLinked m → Runs m machine
-        → ((input : Input) → Stands m (row_of machine.linked.code) (flat_of machine.state) (first m input)) → host.old ≡ []
+        → ((input : Input) → Represents m (layout_of machine.linked.code) (flat_of machine.state) (first m input)) → host.old ≡ []
         → HasRunModule m fuel result (streams (I.input input.old) (O.output out.old)) (streams (I.input input.new) (O.output out.new)) }
 {
     let halt = machine.step_until(fuel, host, input, out);
-    Run {
-        answer: handed_on(answer_of_halt(halt), host, out),
+    RunResult {
+        answer: answer_after_flush(answer_of_halt(halt), host, out),
         steps: machine.steps(),
         func: machine.halted_in(),
     }
@@ -147,7 +147,7 @@ fn run_machine<I: Source, O: Sink>(
 
 /// The answer after the output that is held is handed on. After a fault of the sink, or where it had no memory, nothing
 /// more is handed on: the sink has taken a front of what is held.
-pub fn handed_on<O: Sink>(answer: Answer, host: &mut Host, out: &mut O) -> Answer
+pub fn answer_after_flush<O: Sink>(answer: Answer, host: &mut Host, out: &mut O) -> Answer
     ensures same { result ≡ answer ⊎ IsOutage result (Rose (O.faults out.old) (O.faults out.new)) }
     ensures output { Grew (O.output out.old) (O.output out.new) }
     ensures sink { O.faults out.old ≤ O.faults out.new }

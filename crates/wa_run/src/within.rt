@@ -1,9 +1,9 @@
 //! The run of a module whose memory has a bound that isn't the module's.
 
 ghost use Rattle.std.specs.Prelude.{◌≡◌, ◌<◌, ◌≤◌, ◌⊎◌, length, map, IfOk, IfErr};
-ghost use Rattle.sa_outside.specs.Faults.{Rose};
-ghost use Rattle.sa_outside.specs.Output.{Grew};
-ghost use Rattle.wa_run.specs.Answers.{IsBeforeRun, IsTold};
+ghost use Rattle.host_io.specs.Faults.{Rose};
+ghost use Rattle.host_io.specs.Output.{Grew};
+ghost use Rattle.wa_run.specs.Answers.{IsBeforeRun, IsFaultReported};
 ghost use Rattle.wa_run.specs.Runs.{streams};
 ghost use Rattle.wa_run.specs.Within.{HasRunWithin, SaysOfWithin, limits_within, within};
 ghost use Rattle.wa_syntax.specs.Binary.{SpellsModule};
@@ -12,8 +12,8 @@ ghost use Rattle.wa_syntax.specs.declared.module.Module.{Module as Modules};
 ghost use Rattle.wa_valid.specs.Verdict.{IsRefused};
 
 use crate::answer::Answer;
-use crate::module_run::{Run, run_module};
-use sa_outside::{Sink, Source};
+use crate::module_run::{RunResult, run_module};
+use host_io::{Sink, Source};
 use sqlite_items::Items;
 use std::alloc::Global;
 use wa_decode::{DecodeFault, decode};
@@ -30,11 +30,11 @@ pub fn run_within<I: Source, O: Sink>(
     fuel: u64,
     input: &mut I,
     out: &mut O,
-) -> Run
+) -> RunResult
     requires size { length bytes.now < 4294967295 }
     // Malformed, Invalid, Unlinked and Segment come exactly where the standard says of the module with this memory.
     ensures says { SaysOfWithin pages bytes.now result.answer }
-    ensures told { IsTold result.answer (Rose (I.faults input.old) (I.faults input.new)) (Rose (O.faults out.old) (O.faults out.new)) }
+    ensures reported { IsFaultReported result.answer (Rose (I.faults input.old) (I.faults input.new)) (Rose (O.faults out.old) (O.faults out.new)) }
     ensures spent { result.answer ≡ Answer.Spent → result.steps ≡ fuel }
     ensures within { result.steps ≤ fuel }
     ensures output { Grew (O.output out.old) (O.output out.new) }
@@ -47,7 +47,7 @@ pub fn run_within<I: Source, O: Sink>(
 {
     match load_within(alloc, bytes, pages) {
         Ok(valid) => run_module(alloc, &valid, fuel, input, out),
-        Err(answer) => Run {
+        Err(answer) => RunResult {
             answer,
             steps: 0,
             func: None,

@@ -19,15 +19,15 @@ seven_from bits h = elim (cases_lt 7 bits) [
 
 -- what spells the rest spells the whole behind the front
 pub record Completes {V : Type 0} (IsSpelling : List ℕ → V → Type 0) (front : List ℕ) (rest v : V) : Type 0 where
-  pub behind : (tail : List ℕ) → IsSpelling tail rest → IsSpelling (front ++ tail) v
+  pub following : (tail : List ℕ) → IsSpelling tail rest → IsSpelling (front ++ tail) v
 
 pub Completes-more : {V : Type 0} (IsSpelling : List ℕ → V → Type 0) (bytes : List ℕ) (len byte : ℕ) (rest high v : V) → len < length bytes → ((tail : List ℕ) → IsSpelling tail high → IsSpelling (byte ∷ tail) rest) → Completes IsSpelling (take len bytes) rest v → Completes IsSpelling (take (len + 1) (set bytes len byte)) high v
 Completes-more IsSpelling bytes len byte rest high v within in_front h = record {
-  behind = λ tail k. rw (take_more_set bytes len byte within, append_assoc) (h.behind (byte ∷ tail) (in_front tail k));
+  following = λ tail k. rw (take_more_set bytes len byte within, append_assoc) (h.following (byte ∷ tail) (in_front tail k));
 }
 
 pub Completes-last : {V : Type 0} (IsSpelling : List ℕ → V → Type 0) (bytes : List ℕ) (len byte : ℕ) (rest v : V) → len < length bytes → IsSpelling (byte ∷ []) rest → Completes IsSpelling (take len bytes) rest v → IsSpelling (take (len + 1) (set bytes len byte)) v
-Completes-last IsSpelling bytes len byte rest v within last h = rw (take_more_set bytes len byte within) (h.behind (byte ∷ []) last)
+Completes-last IsSpelling bytes len byte rest v within last h = rw (take_more_set bytes len byte within) (h.following (byte ∷ []) last)
 
 -- ---- without a sign
 

@@ -1,7 +1,7 @@
 -- The binary format of types and modules (sections 5.3 and 5.5 of the WebAssembly Core Specification 1.0) in its integer
 -- part: which bytes spell which module.
 use Rattle.std.specs.Prelude.{◌≡◌, ℕ, ◌≤◌, ◌⊎◌, Bool, true, false, List, [], ◌∷◌, length, map, Option, None, Some}
-use Rattle.wa_syntax.specs.declared.locals.Run.{Run}
+use Rattle.wa_syntax.specs.declared.locals.LocalRun.{LocalRun}
 use Rattle.wa_syntax.specs.declared.module.ElemSegment.{ElemSegment}
 use Rattle.wa_syntax.specs.declared.module.Export.{Export}
 use Rattle.wa_syntax.specs.declared.module.ExportKind.{ExportKind}
@@ -106,13 +106,13 @@ abbrev pub elem : ElemSegment → Format
 elem e = u32 e.table then init e.offset then vec u32 e.funcs
 
 -- locals of one type in a row (5.5.13)
-abbrev pub run : Run → Format
+abbrev pub run : LocalRun → Format
 run r = u32 r.count then valtype r.ty
 
 -- the locals of a function, which are at most a million (5.5.13)
 abbrev pub locals : List ValTy → Format
 locals types bytes =
-    (length types ≤ 1_000_000) × (runs : List Run) × (types_of_runs runs ≡ types) × vec run runs bytes
+    (length types ≤ 1_000_000) × (runs : List LocalRun) × (types_of_runs runs ≡ types) × vec run runs bytes
 
 -- a function without its type: its locals and its body, sized (5.5.13)
 abbrev pub code : Func → Format

@@ -12,11 +12,11 @@ mod trap;
 
 pub use instr::Instr;
 pub use leb128::{one_spelling, read_i32, read_i64, read_u32, write_i32, write_i64, write_u32};
-pub use locals::{Locals, Run};
+pub use locals::{LocalRun, Locals};
 pub use module::{
     DataSegment, ElemSegment, Export, ExportKind, Func, FuncTy, GlobalDef, GlobalTy, Import,
     ImportKind, Init, Limits, Module, ValTy,
 };
-pub use name::Name;
+pub use name::WasmName;
 pub use no_memory::NoMemory;
 pub use trap::TrapKind;

@@ -9,7 +9,7 @@ use std::marker::Model;
 
 /// Locals of one type in a row (5.5.13).
 #[derive(Clone, Copy, Debug, PartialEq, Eq, Hash)]
-pub struct Run {
+pub struct LocalRun {
     pub count: u32,
     pub ty: ValTy,
 }
@@ -17,7 +17,7 @@ pub struct Run {
 /// The types of locals, in order (2.5.3). Contracts see one type for each local.
 #[derive(Debug, Drop)]
 pub struct Locals {
-    runs: Vec<Run>,
+    runs: Vec<LocalRun>,
     /// How many locals the runs have together, or the greatest `u64` where they have more.
     count: u64,
 }
@@ -51,7 +51,7 @@ impl Locals {
         ensures ok { OnOk result (self.new ≡ self.old ++ replicate count ty) }
         ensures err { OnErr result (self.new ≡ self.old) }
     {
-        self.runs.push(Run { count, ty })?;
+        self.runs.push(LocalRun { count, ty })?;
         self.count = self.count.saturating_add(u64::from(count));
         Ok(())
     }
@@ -78,7 +78,7 @@ impl Locals {
     }
 
     /// The runs that were added, in order. A run may be empty, and one after another may have the same type.
-    pub fn runs(&self) -> &[Run]
+    pub fn runs(&self) -> &[LocalRun]
         ensures { types_of_runs result.now ≡ self.now }
     {
         self.runs.as_slice()
@@ -86,7 +86,7 @@ impl Locals {
 }
 
 /// The type at a place of the list that runs stand for.
-fn type_at(runs: &[Run], at: u32) -> Option<ValTy>
+fn type_at(runs: &[LocalRun], at: u32) -> Option<ValTy>
     ensures { result ≡ slice_get (types_of_runs runs.now) at }
 {
     let mut rest = at;

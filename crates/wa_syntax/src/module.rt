@@ -2,7 +2,7 @@
 
 use crate::instr::Instr;
 use crate::locals::Locals;
-use crate::name::Name;
+use crate::name::WasmName;
 use sqlite_items::Items;
 
 /// The type of a value (2.3.1). The profile has no floats.
@@ -53,8 +53,8 @@ pub enum ImportKind {
 /// An import (2.5.11).
 #[derive(Drop)]
 pub struct Import {
-    pub module: Name,
-    pub name: Name,
+    pub module: WasmName,
+    pub name: WasmName,
     pub kind: ImportKind,
 }
 
@@ -70,7 +70,7 @@ pub enum ExportKind {
 /// An export (2.5.10).
 #[derive(Drop)]
 pub struct Export {
-    pub name: Name,
+    pub name: WasmName,
     pub kind: ExportKind,
 }
 

@@ -7,11 +7,11 @@ use std::marker::Model;
 
 /// A name, as its bytes.
 #[derive(Debug, Drop)]
-pub struct Name {
+pub struct WasmName {
     bytes: Vec<u8>,
 }
 
-impl Model for Name {
+impl Model for WasmName {
     ghost use Rattle.std.specs.Prelude.{List, ℕ};
 
     ghost Value = { List ℕ };
@@ -19,13 +19,13 @@ impl Model for Name {
     ghost view = { λ n. n.bytes.items };
 }
 
-impl Name {
+impl WasmName {
     /// A name of these bytes. Fails where memory runs out.
-    pub fn from_slice(alloc: Global, bytes: &[u8]) -> Result<Name, AllocError>
+    pub fn from_slice(alloc: Global, bytes: &[u8]) -> Result<WasmName, AllocError>
         ensures { IfOk result (λ name. name ≡ bytes.now) }
     {
         let bytes = Vec::from_slice(alloc, bytes)?;
-        Ok(Name { bytes })
+        Ok(WasmName { bytes })
     }
 
     /// The bytes of the name.

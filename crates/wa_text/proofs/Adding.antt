@@ -10,7 +10,7 @@ use denote.Ref.{Bor, MutBor}
 use Rattle.wa_syntax.specs.declared.no_memory.NoMemory.{NoMemory}
 use Rattle.wa_text.specs.Forms.{Form, nothing, ◌then◌, each}
 use Rattle.wa_text.specs.Words.{Word, line, word}
-use Rattle.wa_text.specs.Writing.{Adds, AddsWords, AddsLines, Leaves, behind}
+use Rattle.wa_text.specs.Writing.{Adds, AddsWords, AddsLines, Leaves, following}
 
 -- what holds of the same items by another form
 pub Adds-as : {X : Type 0} {show : X → List ℕ} {A : Form X} {old new : List ℕ} (B : Form X) → ((other : List X) → B other → A other) → Adds show A old new → Adds show B old new
@@ -56,7 +56,7 @@ Adds-last r B new a = on_ok_weaker r (λ b. Adds-then a b)
 
 -- ---- words and lines
 
-joined : (w : Word) (words : List Word) → join_with_byte 32 (w ∷ words) ≡ w ++ flat_map behind words
+joined : (w : Word) (words : List Word) → join_with_byte 32 (w ∷ words) ≡ w ++ flat_map following words
 joined w [] = sym (append-nil w)
 joined w (v ∷ words) = ap (λ (rest : List ℕ). w ++ 32 ∷ rest) (joined v words)
 
@@ -74,7 +74,7 @@ Adds-line A B w old begun middle new only begins h ends =
     Adds-one (line (A then B)) (w ∷ h.items) old new
     (λ other k. k.2 ∙ ap (λ (words : List Word). words ∷ []) (k.1.2 ∙ ap (λ (front : List Word). front ++ k.1.1) (only k.1.0 k.1.3) ∙ ap (λ (back : List Word). w ∷ back) (h.only k.1.1 k.1.4)))
     (ends
-    ∙ ap (λ (text : List ℕ). text ++ 10 ∷ []) (h.is ∙ ap (λ (text : List ℕ). text ++ flat_map behind h.items) begins ∙ append_assoc old w (flat_map behind h.items) ∙ ap (λ (text : List ℕ). old ++ text) (sym (joined w h.items)))
+    ∙ ap (λ (text : List ℕ). text ++ 10 ∷ []) (h.is ∙ ap (λ (text : List ℕ). text ++ flat_map following h.items) begins ∙ append_assoc old w (flat_map following h.items) ∙ ap (λ (text : List ℕ). old ++ text) (sym (joined w h.items)))
     ∙ append_assoc old (join_with_byte 32 (w ∷ h.items)) (10 ∷ []))
 
 pub Ok-line : {T E : Type 0} (r : Result T E) (w : Word) (B : Form Word) (old begun middle new : List ℕ) → begun ≡ old ++ w → AddsWords B begun middle → OnOk r (new ≡ middle ++ 10 ∷ []) → OnOk r (AddsLines (line (word w then B)) old new)

@@ -18,7 +18,7 @@ use Rattle.wa_text.specs.declared.reader.instruction.BlockKind.TheVariants as ki
 use Rattle.wa_text.specs.Forms.{Form, ◌then◌, each, exactly, nothing}
 use Rattle.wa_text.specs.Instructions.{begin, else_end, end, indexed, instr, instr_over}
 use Rattle.wa_text.specs.Listing.{IsListing, module_lines}
-use Rattle.wa_text.specs.Reading.{IsUnbroken, Spelled, behind_first, kind_word, rows, rows_at, words_of}
+use Rattle.wa_text.specs.Reading.{IsUnbroken, Spelled, following_first, kind_word, rows, rows_at, words_of}
 use Rattle.wa_text.specs.Words.{Word, Line, AreLines, IsWord, line, line_text, text_of, word, u32}
 use Rattle.wa_text.proofs.Productions.{layer_of}
 use Rattle.wa_text.proofs.Splitting.{words_are}
@@ -88,17 +88,17 @@ rows_line bytes rest h =
 -- the line at a place, by its words
 pub line_here : (text : List ℕ) (at end : ℕ) (bytes : List ℕ) (words : Line) → drop at text ≡ bytes ++ 10 ∷ drop end text → IsUnbroken bytes → words_of bytes ≡ words → Spelled (exactly (words ∷ [])) text at end
 line_here text at end bytes words is unbroken same =
-    let behind = drop end text in
+    let following = drop end text in
     let whole : bytes ≡ join_with_byte 32 words = sym (join_with_byte-slice_split 32 bytes) ∙ ap (join_with_byte 32) same in
     record {
       lines = words ∷ [];
       spelling = refl;
       are = (subst (AllByRecursion IsWord) same (words_are bytes unbroken), tt);
       is = is
-          ∙ sym (append_assoc bytes (10 ∷ []) behind)
-          ∙ ap (λ (front : List ℕ). front ++ behind) (sym (append-nil (bytes ++ 10 ∷ [])))
-          ∙ ap (λ (front : List ℕ). ((front ++ 10 ∷ []) ++ []) ++ behind) whole;
-      rows_are = ap rows is ∙ rows_line bytes behind unbroken ∙ ap (λ (l : Line). l ∷ rows behind) same;
+          ∙ sym (append_assoc bytes (10 ∷ []) following)
+          ∙ ap (λ (front : List ℕ). front ++ following) (sym (append-nil (bytes ++ 10 ∷ [])))
+          ∙ ap (λ (front : List ℕ). ((front ++ 10 ∷ []) ++ []) ++ following) whole;
+      rows_are = ap rows is ∙ rows_line bytes following unbroken ∙ ap (λ (l : Line). l ∷ rows following) same;
     }
 
 -- what holds of the words of the line
@@ -131,7 +131,7 @@ unfolding instr
 holding n i layer lines is h = subst (λ (l : Instr-F Instr). instr_over (each (instr n)) l lines) (sym is) h
 
 -- one that holds others, by its first line and those behind it
-begun_instr : (k : BlockKind) (t : Option ValTy) (n : ℕ) (i : Instr) (lines : List Line) → (begin (kind_word k) t then behind_first k t (each (instr n)) i) lines → instr (suc n) i lines
+begun_instr : (k : BlockKind) (t : Option ValTy) (n : ℕ) (i : Instr) (lines : List Line) → (begin (kind_word k) t then following_first k t (each (instr n)) i) lines → instr (suc n) i lines
 begun_instr kind.Block t n i lines h =
     holding n i (Instr-F.Block t h.4.0) lines (layer_of i (variant.Block t h.4.0) (Instr-F.Block t h.4.0) h.4.1 (variant.rolls-Block t h.4.0)) (h.0, h.1, h.2, h.3, h.4.2)
 begun_instr kind.Loop t n i lines h =
@@ -139,24 +139,24 @@ begun_instr kind.Loop t n i lines h =
 begun_instr kind.If t n i lines h =
     holding n i (Instr-F.If t (h.4.0, h.4.1)) lines (layer_of i (variant.If t (h.4.0, h.4.1)) (Instr-F.If t (h.4.0, h.4.1)) h.4.2 (variant.rolls-If t (h.4.0, h.4.1))) (h.0, h.1, h.2, h.3, h.4.3)
 
-pub begun : (k : BlockKind) (t : Option ValTy) (levels n : ℕ) (i : Instr) (lines : List Line) → levels ≡ suc n → (begin (kind_word k) t then behind_first k t (each (instr n)) i) lines → instr levels i lines
+pub begun : (k : BlockKind) (t : Option ValTy) (levels n : ℕ) (i : Instr) (lines : List Line) → levels ≡ suc n → (begin (kind_word k) t then following_first k t (each (instr n)) i) lines → instr levels i lines
 begun k t levels n i lines is h = subst (λ (m : ℕ). instr m i lines) (sym is) (begun_instr k t n i lines h)
 
 -- what one holds, by its word
-pub held_Block : (k : BlockKind) (t : Option ValTy) (Body : List Instr → Form Line) (i : Instr) (body : List Instr) {text : List ℕ} {at mid last : ℕ} → i ≡ variant.Block t body → k ≡ kind.Block → Spelled (Body body) text at mid → Spelled end text mid last → Spelled (behind_first k t Body i) text at last
+pub held_Block : (k : BlockKind) (t : Option ValTy) (Body : List Instr → Form Line) (i : Instr) (body : List Instr) {text : List ℕ} {at mid last : ℕ} → i ≡ variant.Block t body → k ≡ kind.Block → Spelled (Body body) text at mid → Spelled end text mid last → Spelled (following_first k t Body i) text at last
 held_Block k t Body i body {text} {at} {mid} {last} made is h e =
-    let held : Spelled (behind_first kind.Block t Body i) text at last = weaker (λ lines s. (body, made, s)) (join h e) in
-    subst (λ (b : BlockKind). Spelled (behind_first b t Body i) text at last) (sym is) held
+    let held : Spelled (following_first kind.Block t Body i) text at last = weaker (λ lines s. (body, made, s)) (join h e) in
+    subst (λ (b : BlockKind). Spelled (following_first b t Body i) text at last) (sym is) held
 
-pub held_Loop : (k : BlockKind) (t : Option ValTy) (Body : List Instr → Form Line) (i : Instr) (body : List Instr) {text : List ℕ} {at mid last : ℕ} → i ≡ variant.Loop t body → k ≡ kind.Loop → Spelled (Body body) text at mid → Spelled end text mid last → Spelled (behind_first k t Body i) text at last
+pub held_Loop : (k : BlockKind) (t : Option ValTy) (Body : List Instr → Form Line) (i : Instr) (body : List Instr) {text : List ℕ} {at mid last : ℕ} → i ≡ variant.Loop t body → k ≡ kind.Loop → Spelled (Body body) text at mid → Spelled end text mid last → Spelled (following_first k t Body i) text at last
 held_Loop k t Body i body {text} {at} {mid} {last} made is h e =
-    let held : Spelled (behind_first kind.Loop t Body i) text at last = weaker (λ lines s. (body, made, s)) (join h e) in
-    subst (λ (b : BlockKind). Spelled (behind_first b t Body i) text at last) (sym is) held
+    let held : Spelled (following_first kind.Loop t Body i) text at last = weaker (λ lines s. (body, made, s)) (join h e) in
+    subst (λ (b : BlockKind). Spelled (following_first b t Body i) text at last) (sym is) held
 
-pub held_If : (k : BlockKind) (t : Option ValTy) (Body : List Instr → Form Line) (i : Instr) (body branch : List Instr) {text : List ℕ} {at mid last : ℕ} → i ≡ variant.If t (body, branch) → k ≡ kind.If → Spelled (Body body) text at mid → Spelled (else_end Body branch) text mid last → Spelled (behind_first k t Body i) text at last
+pub held_If : (k : BlockKind) (t : Option ValTy) (Body : List Instr → Form Line) (i : Instr) (body branch : List Instr) {text : List ℕ} {at mid last : ℕ} → i ≡ variant.If t (body, branch) → k ≡ kind.If → Spelled (Body body) text at mid → Spelled (else_end Body branch) text mid last → Spelled (following_first k t Body i) text at last
 held_If k t Body i body branch {text} {at} {mid} {last} made is h e =
-    let held : Spelled (behind_first kind.If t Body i) text at last = weaker (λ lines s. (body, branch, made, s)) (join h e) in
-    subst (λ (b : BlockKind). Spelled (behind_first b t Body i) text at last) (sym is) held
+    let held : Spelled (following_first kind.If t Body i) text at last = weaker (λ lines s. (body, branch, made, s)) (join h e) in
+    subst (λ (b : BlockKind). Spelled (following_first b t Body i) text at last) (sym is) held
 
 -- a branch behind its `else`
 pub with_else : (Body : List Instr → Form Line) (branch : List Instr) {text : List ℕ} {at mid after last : ℕ} → branch ≢ [] → Spelled (line (word (codes "else"))) text at mid → Spelled (Body branch) text mid after → Spelled end text after last → Spelled (else_end Body branch) text at last

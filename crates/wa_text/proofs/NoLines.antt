@@ -12,7 +12,7 @@ use Rattle.wa_text.specs.declared.reader.instruction.FirstLine.{FirstLine}
 use Rattle.wa_text.specs.declared.reader.instruction.FirstLine.TheVariants as first
 use Rattle.wa_text.specs.Forms.{Form, ◌then◌, each, exactly}
 use Rattle.wa_text.specs.Instructions.{block_result, else_end, end, expr, instr, instr_over, max_nesting}
-use Rattle.wa_text.specs.Reading.{Refused, Spelled, anything, begins_not, behind_first, first_line, halts, kind_word, rows_at}
+use Rattle.wa_text.specs.Reading.{Refused, Spelled, anything, begins_not, following_first, first_line, halts, kind_word, rows_at}
 use Rattle.wa_text.specs.Words.{Word, Line, line, word}
 use Rattle.wa_text.proofs.Lines.{by_layer}
 use Rattle.wa_text.proofs.NoInstruction.{kind_layer, no_levels}
@@ -122,7 +122,7 @@ record Structured (Body : List Instr → Form Line) (i : Instr) (s : List Line) 
   more : List Line
   lines : s ≡ words ∷ more
   begins : (word (kind_word kind) then block_result ty) words
-  held : behind_first kind ty Body i more
+  held : following_first kind ty Body i more
 
 by_roll : (i : Instr) (layer : Instr-F Instr) (v : Instr) → out-Instr i ≡ layer → roll-Instr layer ≡ v → i ≡ v
 by_roll i layer v is rolls = sym (roll-out-Instr i) ∙ ap roll-Instr is ∙ rolls
@@ -166,7 +166,7 @@ same_begin k l t u words h g =
     let tails : h.1 ≡ g.1 = cc in
     (same_kind_word k l heads, (whole one-block_result).one t u g.1 (subst (block_result t) tails h.4) g.4)
 
-begun_with : (k : BlockKind) (t : Option ValTy) (n : ℕ) (i : Instr) (words : Line) (more : List Line) → (word (kind_word k) then block_result t) words → (instr (suc n) i then anything) (words ∷ more) → (behind_first k t (each (instr n)) i then anything) more
+begun_with : (k : BlockKind) (t : Option ValTy) (n : ℕ) (i : Instr) (words : Line) (more : List Line) → (word (kind_word k) then block_result t) words → (instr (suc n) i then anything) (words ∷ more) → (following_first k t (each (instr n)) i then anything) more
 unfolding instr
 begun_with k t n i words more form h =
     let own = begun words form in
@@ -176,21 +176,21 @@ begun_with k t n i words more form h =
     let heads : held.words ≡ words = cc in
     let tails : more ≡ held.more ++ h.1 = cc in
     let same = same_begin held.kind k held.ty t words (subst (word (kind_word held.kind) then block_result held.ty) heads held.begins) form in
-    (held.more, h.1, tails, subst (λ (u : Option ValTy). behind_first k u (each (instr n)) i held.more) same.1 (subst (λ (l : BlockKind). behind_first l held.ty (each (instr n)) i held.more) same.0 held.held), tt)
+    (held.more, h.1, tails, subst (λ (u : Option ValTy). following_first k u (each (instr n)) i held.more) same.1 (subst (λ (l : BlockKind). following_first l held.ty (each (instr n)) i held.more) same.0 held.held), tt)
 
-pub refused_begun : (k : BlockKind) (t : Option ValTy) (levels n : ℕ) {text : List ℕ} {from mid at : ℕ} → levels ≡ suc n → Spelled (line (first_line (first.Begin k t))) text from mid → Refused (behind_first k t (each (instr n))) anything text mid at → Refused (instr levels) anything text from at
+pub refused_begun : (k : BlockKind) (t : Option ValTy) (levels n : ℕ) {text : List ℕ} {from mid at : ℕ} → levels ≡ suc n → Spelled (line (first_line (first.Begin k t))) text from mid → Refused (following_first k t (each (instr n))) anything text mid at → Refused (instr levels) anything text from at
 refused_begun k t levels n {text} {from} {mid} {at} is h r =
     subst (λ (m : ℕ). Refused (instr m) anything text from at) (sym is)
     (refused_behind_line h.spelling.0 (line_of h) (λ i more g. (i, begun_with k t n i h.spelling.0 more h.spelling.1 g)) r)
 
 -- ---- what an instruction holds
 
-body_of : (k : BlockKind) (t : Option ValTy) (Body : List Instr → Form Line) (i : Instr) (s x : List Line) → behind_first k t Body i s → (body : List Instr) × (Body body then halts) (s ++ x)
+body_of : (k : BlockKind) (t : Option ValTy) (Body : List Instr → Form Line) (i : Instr) (s x : List Line) → following_first k t Body i s → (body : List Instr) × (Body body then halts) (s ++ x)
 body_of kind.Block t Body i s x (body, is, g) = (body, (g.0, g.1 ++ x, ap (λ (l : List Line). l ++ x) g.2 ∙ append_assoc g.0 g.1 x, g.3, halts_end g.1 x g.4))
 body_of kind.Loop t Body i s x (body, is, g) = (body, (g.0, g.1 ++ x, ap (λ (l : List Line). l ++ x) g.2 ∙ append_assoc g.0 g.1 x, g.3, halts_end g.1 x g.4))
 body_of kind.If t Body i s x (body, branch, is, g) = (body, (g.0, g.1 ++ x, ap (λ (l : List Line). l ++ x) g.2 ∙ append_assoc g.0 g.1 x, g.3, halts_else_end Body branch g.1 x g.4))
 
-pub refused_held : (k : BlockKind) (t : Option ValTy) (n : ℕ) {text : List ℕ} {from at : ℕ} → Refused (each (instr n)) halts text from at → Refused (behind_first k t (each (instr n))) anything text from at
+pub refused_held : (k : BlockKind) (t : Option ValTy) (n : ℕ) {text : List ℕ} {from at : ℕ} → Refused (each (instr n)) halts text from at → Refused (following_first k t (each (instr n))) anything text from at
 refused_held k t n r = refused_as (λ i lines same h.
     let body = body_of k t (each (instr n)) i h.0 h.1 h.3 in
     (body.0, subst (each (instr n) body.0 then halts) (sym h.2) body.1)) r
@@ -204,28 +204,28 @@ refused_end n body {text} {from} {mid} h stops none =
     let first = same_first (codes "end" ∷ []) g.1 lines (rows_at text mid) row same in
     none first.0 first.1))
 
-pub refused_Block : (k : BlockKind) (t : Option ValTy) (n : ℕ) {text : List ℕ} {from at : ℕ} → k ≡ kind.Block → Refused (pair (each (instr n)) the_end) anything text from at → Refused (behind_first k t (each (instr n))) anything text from at
+pub refused_Block : (k : BlockKind) (t : Option ValTy) (n : ℕ) {text : List ℕ} {from at : ℕ} → k ≡ kind.Block → Refused (pair (each (instr n)) the_end) anything text from at → Refused (following_first k t (each (instr n))) anything text from at
 refused_Block k t n {text} {from} {at} is r =
-    subst (λ (b : BlockKind). Refused (behind_first b t (each (instr n))) anything text from at) (sym is) held
+    subst (λ (b : BlockKind). Refused (following_first b t (each (instr n))) anything text from at) (sym is) held
   where
-    held : Refused (behind_first kind.Block t (each (instr n))) anything text from at
+    held : Refused (following_first kind.Block t (each (instr n))) anything text from at
     held = refused_as (λ i lines same h. ((h.3.0, tt), (h.0, h.1, h.2, h.3.2, tt))) r
 
-pub refused_Loop : (k : BlockKind) (t : Option ValTy) (n : ℕ) {text : List ℕ} {from at : ℕ} → k ≡ kind.Loop → Refused (pair (each (instr n)) the_end) anything text from at → Refused (behind_first k t (each (instr n))) anything text from at
+pub refused_Loop : (k : BlockKind) (t : Option ValTy) (n : ℕ) {text : List ℕ} {from at : ℕ} → k ≡ kind.Loop → Refused (pair (each (instr n)) the_end) anything text from at → Refused (following_first k t (each (instr n))) anything text from at
 refused_Loop k t n {text} {from} {at} is r =
-    subst (λ (b : BlockKind). Refused (behind_first b t (each (instr n))) anything text from at) (sym is) held
+    subst (λ (b : BlockKind). Refused (following_first b t (each (instr n))) anything text from at) (sym is) held
   where
-    held : Refused (behind_first kind.Loop t (each (instr n))) anything text from at
+    held : Refused (following_first kind.Loop t (each (instr n))) anything text from at
     held = refused_as (λ i lines same h. ((h.3.0, tt), (h.0, h.1, h.2, h.3.2, tt))) r
 
-pub refused_If : (k : BlockKind) (t : Option ValTy) (n : ℕ) (body : List Instr) {text : List ℕ} {from mid at : ℕ} → k ≡ kind.If → Spelled (each (instr n) body) text from mid → halts (rows_at text mid) → Refused (else_end (each (instr n))) anything text mid at → Refused (behind_first k t (each (instr n))) anything text from at
+pub refused_If : (k : BlockKind) (t : Option ValTy) (n : ℕ) (body : List Instr) {text : List ℕ} {from mid at : ℕ} → k ≡ kind.If → Spelled (each (instr n) body) text from mid → halts (rows_at text mid) → Refused (else_end (each (instr n))) anything text mid at → Refused (following_first k t (each (instr n))) anything text from at
 refused_If k t n body {text} {from} {mid} {at} is h stops r =
-    subst (λ (b : BlockKind). Refused (behind_first b t (each (instr n))) anything text from at) (sym is) held
+    subst (λ (b : BlockKind). Refused (following_first b t (each (instr n))) anything text from at) (sym is) held
   where
     both : Refused (pair (each (instr n)) (else_end (each (instr n)))) anything text from at
     both = refused_behind body (one_sequence n) halts-local h stops (λ branch s x e follows. halts_else_end (each (instr n)) branch s x e) r
 
-    held : Refused (behind_first kind.If t (each (instr n))) anything text from at
+    held : Refused (following_first kind.If t (each (instr n))) anything text from at
     held = refused_as (λ i lines same h. ((h.3.0, h.3.1), (h.0, h.1, h.2, h.3.3, tt))) both
 
 -- ---- a branch behind its `else`

@@ -14,7 +14,7 @@ use Rattle.wa_text.specs.Listing as listing
 use Rattle.wa_text.specs.Mnemonics.{access_names, name_in, plain_names}
 use Rattle.wa_text.specs.Words.{Word, Line, line, word, u32}
 use Rattle.wa_text.proofs.Rows.{code_in, each_passes, has_number, has_number-is}
-use Rattle.wa_text.proofs.OneItem.{IsOne, IsWhole, any, pair, one-pair, one-as, one-single, whole, one-each, one-line, whole-behind, one-u32, one-u64, one-block_result, one-head, one-labels}
+use Rattle.wa_text.proofs.OneItem.{IsOne, IsWhole, any, pair, one-pair, one-as, one-single, whole, one-each, one-line, whole-following, one-u32, one-u64, one-block_result, one-head, one-labels}
 
 -- ---- names of opcodes
 
@@ -222,10 +222,10 @@ else_end_stops Body [] s x h follows = end_stops tt s x h tt
 else_end_stops Body (i ∷ is) s x h follows = (18, omega arith, begins_front s x (begins_then s h.0 h.1 h.2 (else_begins h.0 h.3)))
 
 one_begin : (w : Word) → IsOne any (begin w)
-one_begin w = one-line (whole-behind w one-block_result)
+one_begin w = one-line (whole-following w one-block_result)
 
 one_indexed : (w : Word) → IsOne any (indexed w)
-one_indexed w = one-line (whole-behind w (one-u32 nothing))
+one_indexed w = one-line (whole-following w (one-u32 nothing))
 
 one_access : IsWhole (λ (p : ℕ × (ℕ × ℕ)). named access_names p.0 then u32 p.1.0 then u32 p.1.1)
 one_access = whole (one-pair (one-single any (λ v s h. (h.0, h.2)) (whole_named access_names access_once)) (one-pair (one-u32 any) (one-u32 nothing) (λ v s x h ends. tt)) (λ v s x h ends. tt))
@@ -269,7 +269,7 @@ one_layer one_Body (Instr-F.GlobalSet v) (Instr-F.GlobalSet w) a b x y h k same 
 one_layer one_Body (Instr-F.I32Const v) (Instr-F.I32Const w) a b x y h k same =
     let both = (one_indexed (codes "i32.const")).one v w a b x y h k tt tt same in (both.0, ap (λ (n : ℕ). Instr-F.I32Const n) both.1)
 one_layer one_Body (Instr-F.I64Const v) (Instr-F.I64Const w) a b x y h k same =
-    let both = (one-line (whole-behind (codes "i64.const") (one-u64 nothing))).one v w a b x y h k tt tt same in (both.0, ap (λ (n : ℕ). Instr-F.I64Const n) both.1)
+    let both = (one-line (whole-following (codes "i64.const") (one-u64 nothing))).one v w a b x y h k tt tt same in (both.0, ap (λ (n : ℕ). Instr-F.I64Const n) both.1)
 one_layer {Body} one_Body layer other a b x y h k same =
     let kinds : number layer ≡ number other = same_kind (b ++ y) (subst (Begins (number layer)) same (begins_front a x (layer_begins Body layer a h))) (begins_front b y (layer_begins Body other b k)) in
     absurd (omega (arith, kinds))

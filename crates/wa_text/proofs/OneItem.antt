@@ -103,8 +103,8 @@ first_item c u s = s ≡ c ∷ []
 one-first_item : {X : Type 0} (c : X) → IsOne any (first_item c)
 one-first_item c = record { one = λ v w a b x y h k follows goes same. (h ∙ sym k, refl) }
 
-pub one-behind : {X V : Type 0} {K : Form X} {F : V → Form X} (c : X) → IsOne K F → IsOne K (λ v. (λ s. s ≡ c ∷ []) then F v)
-one-behind {X} {V} {F = F} c one_F =
+pub one-following : {X V : Type 0} {K : Form X} {F : V → Form X} (c : X) → IsOne K F → IsOne K (λ v. (λ s. s ≡ c ∷ []) then F v)
+one-following {X} {V} {F = F} c one_F =
     one-as {P = pair (first_item c) F} (λ (v : V). (tt, v)) (λ v w same. ap (λ (p : Unit {0} × V). p.1) same) (λ v s h. h) (one-pair (one-first_item c) one_F (λ v s x h follows. tt))
 
 pub whole : {X V : Type 0} {F : V → Form X} → IsOne nothing F → IsWhole F
@@ -277,13 +277,13 @@ no_arrow I32 s x h arrow = apart (codes "i32") (codes "->") (s ++ x) x arrow.0 r
 no_arrow I64 s x h arrow = apart (codes "i64") (codes "->") (s ++ x) x arrow.0 refl (ap (λ (front : List Word). front ++ x) h) arrow.1
 
 one_results : IsOne nothing (λ (ts : List ValTy). word (codes "->") then each val ts)
-one_results = one-behind (codes "->") one_vals
+one_results = one-following (codes "->") one_vals
 
 pub one-functype : IsWhole functype
 one-functype = whole (one-as {P = λ (p : List ValTy × List ValTy). word (codes "type") then pair (each val) (λ (ts : List ValTy). word (codes "->") then each val ts) p} (λ (t : FuncTy). (t.params, t.results))
     (λ v w same. ap (λ (p : List ValTy × List ValTy). let t : FuncTy = record { params = p.0; results = p.1 } in t) same)
     (λ v s h. h)
-    (one-behind (codes "type") (one-pair {J = is_arrow} (one-each (one-val any) no_arrow) one_results (λ ts s x h ends. (h.1 ++ x, ap (λ (front : List Word). front ++ x) (h.2 ∙ ap (λ (front : List Word). front ++ h.1) h.3))))))
+    (one-following (codes "type") (one-pair {J = is_arrow} (one-each (one-val any) no_arrow) one_results (λ ts s x h ends. (h.1 ++ x, ap (λ (front : List Word). front ++ x) (h.2 ∙ ap (λ (front : List Word). front ++ h.1) h.3))))))
 
 -- one number has one word, and two have two
 one_limits_of : (m n : ℕ) (p q : Option ℕ) (s : List Word) → limits_of m p s → limits_of n q s → (m ≡ n) × (p ≡ q)
@@ -331,10 +331,10 @@ import_begins (imported.Global t) s h = begun s h
 
 whole_importdesc : (v w : ImportKind) (s : List Word) → importdesc v s → importdesc w s → v ≡ w
 unfolding import_word
-whole_importdesc (imported.Func x) (imported.Func y) s h k = ap (λ (n : ℕ). imported.Func n) ((whole (one-behind (codes "func") (one-u32 nothing))).one x y s h k)
-whole_importdesc (imported.Table t) (imported.Table u) s h k = ap (λ (l : Limits). imported.Table l) ((whole (one-behind (codes "table") one-limits)).one t u s h k)
-whole_importdesc (imported.Memory t) (imported.Memory u) s h k = ap (λ (l : Limits). imported.Memory l) ((whole (one-behind (codes "memory") one-limits)).one t u s h k)
-whole_importdesc (imported.Global t) (imported.Global u) s h k = ap (λ (g : GlobalTy). imported.Global g) ((whole (one-behind (codes "global") (one-globaltype nothing))).one t u s h k)
+whole_importdesc (imported.Func x) (imported.Func y) s h k = ap (λ (n : ℕ). imported.Func n) ((whole (one-following (codes "func") (one-u32 nothing))).one x y s h k)
+whole_importdesc (imported.Table t) (imported.Table u) s h k = ap (λ (l : Limits). imported.Table l) ((whole (one-following (codes "table") one-limits)).one t u s h k)
+whole_importdesc (imported.Memory t) (imported.Memory u) s h k = ap (λ (l : Limits). imported.Memory l) ((whole (one-following (codes "memory") one-limits)).one t u s h k)
+whole_importdesc (imported.Global t) (imported.Global u) s h k = ap (λ (g : GlobalTy). imported.Global g) ((whole (one-following (codes "global") (one-globaltype nothing))).one t u s h k)
 whole_importdesc v w s h k =
     let begins = import_begins v s h in
     let other = import_begins w s k in
@@ -344,7 +344,7 @@ pub one-import : IsWhole import
 one-import = whole (one-as {P = λ (p : List ℕ × (List ℕ × ImportKind)). word (codes "import") then pair name (pair name importdesc) p} (λ (i : Import). (i.«module», (i.name, i.kind)))
     (λ v w same. ap (λ (p : List ℕ × (List ℕ × ImportKind)). let i : Import = record { «module» = p.0; name = p.1.0; kind = p.1.1 } in i) same)
     (λ v s h. h)
-    (one-behind (codes "import") (one-pair (one-name any) (one-pair (one-name any) (one-end (record { one = whole_importdesc })) (λ v s x h ends. tt)) (λ v s x h ends. tt))))
+    (one-following (codes "import") (one-pair (one-name any) (one-pair (one-name any) (one-end (record { one = whole_importdesc })) (λ v s x h ends. tt)) (λ v s x h ends. tt))))
 
 -- an initial value is two words
 pub init_kind : Init → Word
@@ -365,9 +365,9 @@ init_words (Global x) s h = h.2 ∙ ap (λ (front : List Word). front ++ h.1) h.
 
 whole_init : (v w : Init) (s : List Word) → init v s → init w s → v ≡ w
 unfolding init_kind
-whole_init (Const32 m) (Const32 n) s h k = ap (λ (x : ℕ). Const32 x) ((whole (one-behind (codes "i32") (one-u32 nothing))).one m n s h k)
-whole_init (Const64 m) (Const64 n) s h k = ap (λ (x : ℕ). Const64 x) ((whole (one-behind (codes "i64") (one-u64 nothing))).one m n s h k)
-whole_init (Global m) (Global n) s h k = ap (λ (x : ℕ). Global x) ((whole (one-behind (codes "get") (one-u32 nothing))).one m n s h k)
+whole_init (Const32 m) (Const32 n) s h k = ap (λ (x : ℕ). Const32 x) ((whole (one-following (codes "i32") (one-u32 nothing))).one m n s h k)
+whole_init (Const64 m) (Const64 n) s h k = ap (λ (x : ℕ). Const64 x) ((whole (one-following (codes "i64") (one-u64 nothing))).one m n s h k)
+whole_init (Global m) (Global n) s h k = ap (λ (x : ℕ). Global x) ((whole (one-following (codes "get") (one-u32 nothing))).one m n s h k)
 whole_init v w s h k = absurd (apart (init_kind v) (init_kind w) s (init_value v ∷ []) (init_value w ∷ []) refl (init_words v s h) (init_words w s k))
 
 one-init : (K : Form Word) → IsOne K init
@@ -382,7 +382,7 @@ one-init K = record {
 
 pub one-global : IsWhole global
 one-global = whole (one-as {P = λ (p : GlobalTy × Init). word (codes "global") then pair globaltype init p} (λ (g : GlobalDef). (g.ty, g.init)) (λ v w same. ap (λ (p : GlobalTy × Init). let g : GlobalDef = record { ty = p.0; init = p.1 } in g) same) (λ v s h. h)
-    (one-behind (codes "global") (one-pair (one-globaltype any) (one-init nothing) (λ v s x h ends. tt))))
+    (one-following (codes "global") (one-pair (one-globaltype any) (one-init nothing) (λ v s x h ends. tt))))
 
 pub export_word : ExportKind → Word
 export_word (exported.Func x) = codes "func"
@@ -399,10 +399,10 @@ export_begins (exported.Global x) s h = begun s h
 
 whole_exportdesc : (v w : ExportKind) (s : List Word) → exportdesc v s → exportdesc w s → v ≡ w
 unfolding export_word
-whole_exportdesc (exported.Func x) (exported.Func y) s h k = ap (λ (n : ℕ). exported.Func n) ((whole (one-behind (codes "func") (one-u32 nothing))).one x y s h k)
-whole_exportdesc (exported.Table x) (exported.Table y) s h k = ap (λ (n : ℕ). exported.Table n) ((whole (one-behind (codes "table") (one-u32 nothing))).one x y s h k)
-whole_exportdesc (exported.Memory x) (exported.Memory y) s h k = ap (λ (n : ℕ). exported.Memory n) ((whole (one-behind (codes "memory") (one-u32 nothing))).one x y s h k)
-whole_exportdesc (exported.Global x) (exported.Global y) s h k = ap (λ (n : ℕ). exported.Global n) ((whole (one-behind (codes "global") (one-u32 nothing))).one x y s h k)
+whole_exportdesc (exported.Func x) (exported.Func y) s h k = ap (λ (n : ℕ). exported.Func n) ((whole (one-following (codes "func") (one-u32 nothing))).one x y s h k)
+whole_exportdesc (exported.Table x) (exported.Table y) s h k = ap (λ (n : ℕ). exported.Table n) ((whole (one-following (codes "table") (one-u32 nothing))).one x y s h k)
+whole_exportdesc (exported.Memory x) (exported.Memory y) s h k = ap (λ (n : ℕ). exported.Memory n) ((whole (one-following (codes "memory") (one-u32 nothing))).one x y s h k)
+whole_exportdesc (exported.Global x) (exported.Global y) s h k = ap (λ (n : ℕ). exported.Global n) ((whole (one-following (codes "global") (one-u32 nothing))).one x y s h k)
 whole_exportdesc v w s h k =
     let begins = export_begins v s h in
     let other = export_begins w s k in
@@ -410,29 +410,29 @@ whole_exportdesc v w s h k =
 
 pub one-export : IsWhole export
 one-export = whole (one-as {P = λ (p : List ℕ × ExportKind). word (codes "export") then pair name exportdesc p} (λ (e : Export). (e.name, e.kind)) (λ v w same. ap (λ (p : List ℕ × ExportKind). let e : Export = record { name = p.0; kind = p.1 } in e) same) (λ v s h. h)
-    (one-behind (codes "export") (one-pair (one-name any) (one-end (record { one = whole_exportdesc })) (λ v s x h ends. tt))))
+    (one-following (codes "export") (one-pair (one-name any) (one-end (record { one = whole_exportdesc })) (λ v s x h ends. tt))))
 
 pub one-elem : IsWhole elem
 one-elem = whole (one-as {P = λ (p : ℕ × (Init × List ℕ)). word (codes "elem") then pair u32 (pair init (each u32)) p} (λ (e : ElemSegment). (e.table, (e.offset, e.funcs))) (λ v w same. ap (λ (p : ℕ × (Init × List ℕ)). let e : ElemSegment = record { table = p.0; offset = p.1.0; funcs = p.1.1 } in e) same) (λ v s h. h)
-    (one-behind (codes "elem") (one-pair (one-u32 any) (one-pair (one-init any) one_indices (λ v s x h ends. tt)) (λ v s x h ends. tt))))
+    (one-following (codes "elem") (one-pair (one-u32 any) (one-pair (one-init any) one_indices (λ v s x h ends. tt)) (λ v s x h ends. tt))))
 
 pub one-segment : IsWhole segment
 one-segment = whole (one-as {P = λ (p : ℕ × (Init × List ℕ)). word (codes "data") then pair u32 (pair init bytes) p} (λ (x : DataSegment). (x.memory, (x.offset, x.bytes))) (λ v w same. ap (λ (p : ℕ × (Init × List ℕ)). let x : DataSegment = record { memory = p.0; offset = p.1.0; bytes = p.1.1 } in x) same) (λ v s h. h)
-    (one-behind (codes "data") (one-pair (one-u32 any) (one-pair (one-init any) (one-bytes nothing) (λ v s x h ends. tt)) (λ v s x h ends. tt))))
+    (one-following (codes "data") (one-pair (one-u32 any) (one-pair (one-init any) (one-bytes nothing) (λ v s x h ends. tt)) (λ v s x h ends. tt))))
 
-pub whole-behind : {V : Type 0} {F : V → Form Word} (w : Word) → IsOne nothing F → IsWhole (λ v. word w then F v)
-whole-behind w one_F = whole (one-behind w one_F)
+pub whole-following : {V : Type 0} {F : V → Form Word} (w : Word) → IsOne nothing F → IsWhole (λ v. word w then F v)
+whole-following w one_F = whole (one-following w one_F)
 
 pub one-start : IsWhole (λ (x : ℕ). word (codes "start") then u32 x)
-one-start = whole-behind (codes "start") (one-u32 nothing)
+one-start = whole-following (codes "start") (one-u32 nothing)
 
 -- the line with which a function begins
 pub one-head : IsWhole (λ (p : ℕ × List ValTy). word (codes "func") then u32 p.0 then locals p.1)
-one-head = whole-behind {F = pair u32 locals} (codes "func") (one-pair (one-u32 any) (one-as {P = each val} (λ (ts : List ValTy). ts) (λ v w same. same) (λ v s h. h.1) one_vals) (λ v s x h ends. tt))
+one-head = whole-following {F = pair u32 locals} (codes "func") (one-pair (one-u32 any) (one-as {P = each val} (λ (ts : List ValTy). ts) (λ v w same. same) (λ v s h. h.1) one_vals) (λ v s x h ends. tt))
 
 -- the labels of a br_table, with the default last
 pub one-labels : IsWhole (λ (p : List ℕ × ℕ). word (codes "br_table") then each u32 p.0 then u32 p.1)
-one-labels = whole-behind {F = λ (p : List ℕ × ℕ). each u32 p.0 then u32 p.1} (codes "br_table") (one-as {P = each u32} (λ (p : List ℕ × ℕ). p.0 ++ p.1 ∷ []) last (λ p s h. row p.0 p.1 s h) one_indices)
+one-labels = whole-following {F = λ (p : List ℕ × ℕ). each u32 p.0 then u32 p.1} (codes "br_table") (one-as {P = each u32} (λ (p : List ℕ × ℕ). p.0 ++ p.1 ∷ []) last (λ p s h. row p.0 p.1 s h) one_indices)
   where
     row : (ls : List ℕ) (l : ℕ) (s : List Word) → (each u32 ls then u32 l) s → each u32 (ls ++ l ∷ []) s
     row ls l s h = subst (each u32 (ls ++ l ∷ [])) (sym h.2) (each_more u32 ls l h.0 h.1 h.3 h.4)

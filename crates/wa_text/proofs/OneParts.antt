@@ -15,7 +15,7 @@ use Rattle.wa_text.specs.Listing as listing
 use Rattle.wa_text.specs.Listing.{module_lines}
 use Rattle.wa_text.specs.Words.{Word, Line, line, word, u32}
 use Rattle.wa_text.proofs.OneInstruction.{one-func}
-use Rattle.wa_text.proofs.OneItem.{IsOne, IsWhole, any, begun, pair, one-pair, whole, one-each, one-line, whole-behind, one-limits, one-functype, one-import, one-global, one-export, one-elem, one-segment, one-start}
+use Rattle.wa_text.proofs.OneItem.{IsOne, IsWhole, any, begun, pair, one-pair, whole, one-each, one-line, whole-following, one-limits, one-functype, one-import, one-global, one-export, one-elem, one-segment, one-start}
 use Rattle.wa_text.proofs.Rows.{code_in}
 
 -- ---- the order of the parts
@@ -102,11 +102,11 @@ funcs_part = record {
 
 pub tables_part : IsPart 4 (λ (l : Limits). line (listing.table l))
 unfolding or_none rank_table code_in
-tables_part = lines_part 4 (codes "table") refl (λ v s h. begun s h) (whole-behind (codes "table") one-limits)
+tables_part = lines_part 4 (codes "table") refl (λ v s h. begun s h) (whole-following (codes "table") one-limits)
 
 pub memories_part : IsPart 5 (λ (l : Limits). line (listing.memory l))
 unfolding or_none rank_table code_in
-memories_part = lines_part 5 (codes "memory") refl (λ v s h. begun s h) (whole-behind (codes "memory") one-limits)
+memories_part = lines_part 5 (codes "memory") refl (λ v s h. begun s h) (whole-following (codes "memory") one-limits)
 
 pub globals_part : IsPart 6 (λ (g : GlobalDef). line (listing.global g))
 unfolding or_none rank_table code_in

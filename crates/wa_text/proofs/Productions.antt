@@ -6,7 +6,7 @@ use Rattle.std.proofs.lemmas.Result.{on_ok_weaker}
 use Rattle.wa_syntax.specs.declared.instr.Instr.{Instr, out-Instr, out-roll-Instr, roll-Instr}
 use Rattle.wa_syntax.specs.declared.instr.Instr.TheOpen.{Instr-F}
 use Rattle.wa_syntax.specs.declared.instr.Instr.TheVariants as variant
-use Rattle.wa_syntax.specs.declared.locals.Run.{Run}
+use Rattle.wa_syntax.specs.declared.locals.LocalRun.{LocalRun}
 use Rattle.wa_syntax.specs.declared.module.Module.{Module}
 use Rattle.wa_syntax.specs.declared.module.ValTy.{ValTy}
 use Rattle.wa_syntax.specs.Locals.{types_of_runs}
@@ -103,21 +103,21 @@ each_append F (v ∷ vs) ws xs h =
     (h.0 ++ rest.0, rest.1, h.2 ∙ ap (λ back. h.0 ++ back) rest.2 ∙ sym (append_assoc h.0 rest.0 rest.1), (h.0, rest.0, refl, h.3, rest.3), rest.4)
 
 -- the types of a run, and behind it those of others
-pub each_run : (run : Run) (runs : List Run) (words : List Word) → each val (types_of_runs (run ∷ runs)) words → (each val (replicate run.count run.ty) then each val (types_of_runs runs)) words
+pub each_run : (run : LocalRun) (runs : List LocalRun) (words : List Word) → each val (types_of_runs (run ∷ runs)) words → (each val (replicate run.count run.ty) then each val (types_of_runs runs)) words
 each_run run runs words h = each_append val (replicate run.count run.ty) (types_of_runs runs) words h
 
 -- runs as the types that they stand for
-runs_apart : (runs : List Run) (words : List Word) → each val (types_of_runs runs) words → each (λ run. each val (replicate run.count run.ty)) runs words
+runs_apart : (runs : List LocalRun) (words : List Word) → each val (types_of_runs runs) words → each (λ run. each val (replicate run.count run.ty)) runs words
 runs_apart [] words h = h
 runs_apart (run ∷ runs) words h =
     let apart = each_run run runs words h in
     (apart.0, apart.1, apart.2, apart.3, runs_apart runs apart.1 apart.4)
 
-pub Adds-runs : (runs : List Run) (types : List ValTy) (old new : List ℕ) → types_of_runs runs ≡ types → AddsWords (each (λ run. each val (replicate run.count run.ty)) runs) old new → AddsWords (each val types) old new
+pub Adds-runs : (runs : List LocalRun) (types : List ValTy) (old new : List ℕ) → types_of_runs runs ≡ types → AddsWords (each (λ run. each val (replicate run.count run.ty)) runs) old new → AddsWords (each val types) old new
 Adds-runs runs types old new same h =
-    subst (λ (list : List ValTy). AddsWords (each val list) old new) same (Adds-as {A = each (λ (run : Run). each val (replicate run.count run.ty)) runs} (each val (types_of_runs runs)) (runs_apart runs) h)
+    subst (λ (list : List ValTy). AddsWords (each val list) old new) same (Adds-as {A = each (λ (run : LocalRun). each val (replicate run.count run.ty)) runs} (each val (types_of_runs runs)) (runs_apart runs) h)
 
-pub Adds-locals : (runs : List Run) (types : List ValTy) (old new : List ℕ) → types_of_runs runs ≡ types → AddsWords (each (λ run. each val (replicate run.count run.ty)) runs) old new → AddsWords (locals types) old new
+pub Adds-locals : (runs : List LocalRun) (types : List ValTy) (old new : List ℕ) → types_of_runs runs ≡ types → AddsWords (each (λ run. each val (replicate run.count run.ty)) runs) old new → AddsWords (locals types) old new
 Adds-locals runs types old new same h = Adds-as {A = each val types} (locals types) (λ other spelled. spelled.1) (Adds-runs runs types old new same h)
 
 pub replicate_more : (n m : ℕ) (ty : ValTy) → n ≡ suc m → replicate n ty ≡ ty ∷ replicate m ty

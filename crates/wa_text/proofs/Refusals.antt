@@ -73,9 +73,9 @@ none_first lines [] is same = refl
 none_first lines (o ∷ other) is same = let no : [] ≡ o ∷ [] = sym (ap (take 1) is) ∙ same in let none : ⊥ = cc in absurd none
 
 -- the lines that are passed, and those behind them, begin as the text does
-first_again : (front more all behind : List Line) → all ≡ front ++ behind → take 1 more ≡ take 1 behind → take 1 (front ++ more) ≡ take 1 all
-first_again [] more all behind is same = same ∙ ap (take 1) (sym is)
-first_again (f ∷ front) more all behind is same = ap (take 1) (sym is)
+first_again : (front more all following : List Line) → all ≡ front ++ following → take 1 more ≡ take 1 following → take 1 (front ++ more) ≡ take 1 all
+first_again [] more all following is same = same ∙ ap (take 1) (sym is)
+first_again (f ∷ front) more all following is same = ap (take 1) (sym is)
 
 -- ---- places
 

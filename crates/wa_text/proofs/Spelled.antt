@@ -77,18 +77,18 @@ back_bytes (b ∷ front) back h = back_bytes front back h.1
 in_front : (front back : List ℕ) {bytes : List ℕ} → bytes ≡ front ++ back → AreBytes bytes → AreBytes front
 in_front front back e h = front_bytes front back (subst AreBytes e h)
 
-behind : (front back : List ℕ) {bytes : List ℕ} → bytes ≡ front ++ back → AreBytes bytes → AreBytes back
-behind front back e h = back_bytes front back (subst AreBytes e h)
+following : (front back : List ℕ) {bytes : List ℕ} → bytes ≡ front ++ back → AreBytes bytes → AreBytes back
+following front back e h = back_bytes front back (subst AreBytes e h)
 
 each_has : {V : Type 0} (B : V → Format) (P : V → Type 0) (vs : List V) (bytes : List ℕ) → ((v : V) (bytes : List ℕ) → AreBytes bytes → B v bytes → P v) → AreBytes bytes → formats.each B vs bytes → AllByRecursion P vs
 each_has B P [] bytes f are s = tt
-each_has B P (v ∷ vs) bytes f are s = (f v s.0 (in_front _ _ s.2 are) s.3, each_has B P vs s.1 f (behind _ _ s.2 are) s.4)
+each_has B P (v ∷ vs) bytes f are s = (f v s.0 (in_front _ _ s.2 are) s.3, each_has B P vs s.1 f (following _ _ s.2 are) s.4)
 
 section_has : {V : Type 0} (id : ℕ) (B : V → Format) (P : V → Type 0) (vs : List V) (bytes : List ℕ) → ((v : V) (bytes : List ℕ) → AreBytes bytes → B v bytes → P v) → AreBytes bytes → vecsec id B vs bytes → AllByRecursion P vs
 section_has id B P vs bytes f are (inl (none, empty)) = subst (AllByRecursion P) (sym none) tt
 section_has id B P vs bytes f are (inr s) =
-    let content : AreBytes s.4.0 = subst AreBytes s.4.2.4 (behind _ _ s.4.2.2 (behind _ _ s.2 are)) in
-    each_has B P vs s.4.1.1 f (behind _ _ s.4.1.2 content) s.4.1.4
+    let content : AreBytes s.4.0 = subst AreBytes s.4.2.4 (following _ _ s.4.2.2 (following _ _ s.2 are)) in
+    each_has B P vs s.4.1.1 f (following _ _ s.4.1.2 content) s.4.1.4
 
 numbers_have : (ns : List ℕ) (bytes : List ℕ) → AreBytes bytes → formats.each formats.u32 ns bytes → AllByRecursion (λ n. HasWords (u32 n)) ns
 numbers_have ns bytes are s = each_has formats.u32 (λ n. HasWords (u32 n)) ns bytes (λ n spelled is h. number_has n spelled h) are s
@@ -134,11 +134,11 @@ spelled_bytes : (bs bytes : List ℕ) → AreBytes bytes → formats.each format
 spelled_bytes bs bytes are s = each_has formats.byte (λ b. b < 256) bs bytes (λ b front is e. (subst AreBytes e is).0) are s
 
 name_has : (text bytes : List ℕ) → AreBytes bytes → formats.name text bytes → HasWords (name text)
-name_has text bytes are (utf8, s) = has_name text utf8 (spelled_bytes text s.1 (behind _ _ s.2 are) s.4)
+name_has text bytes are (utf8, s) = has_name text utf8 (spelled_bytes text s.1 (following _ _ s.2 are) s.4)
 
 import_has : (i : Import) (bytes : List ℕ) → AreBytes bytes → binary.import i bytes → HasWords (listing.import i)
 import_has i bytes are s =
-    let rest = behind _ _ s.2 are in
+    let rest = following _ _ s.2 are in
     has_then (has_word (codes "import") refl) (has_then (name_has i.module s.0 (in_front _ _ s.2 are) s.3) (has_then (name_has i.name s.4.0 (in_front _ _ s.4.2 rest) s.4.3) (importdesc_has i.kind s.4.1 s.4.4)))
 
 init_has : (i : Init) (bytes : List ℕ) → binary_instr.init i bytes → HasWords (listing.init i)
@@ -170,12 +170,12 @@ start_has (Some x) bytes s = has_line (has_then (has_word (codes "start") refl) 
 
 elem_has : (e : ElemSegment) (bytes : List ℕ) → AreBytes bytes → binary.elem e bytes → HasWords (listing.elem e)
 elem_has e bytes are s =
-    let funcs = behind _ _ s.4.4.2 (behind _ _ s.4.2 (behind _ _ s.2 are)) in
+    let funcs = following _ _ s.4.4.2 (following _ _ s.4.2 (following _ _ s.2 are)) in
     has_then (has_word (codes "elem") refl) (has_then (number_has e.table s.0 s.3) (has_then (init_has e.offset s.4.0 s.4.3) (has_each u32 e.funcs (numbers_have e.funcs s.4.4.1 funcs s.4.4.4))))
 
 segment_has : (x : DataSegment) (bytes : List ℕ) → AreBytes bytes → binary.segment x bytes → HasWords (listing.segment x)
 segment_has x bytes are s =
-    let content = behind _ _ s.4.4.2 (behind _ _ s.4.2 (behind _ _ s.2 are)) in
+    let content = following _ _ s.4.4.2 (following _ _ s.4.2 (following _ _ s.2 are)) in
     has_then (has_word (codes "data") refl) (has_then (number_has x.memory s.0 s.3) (has_then (init_has x.offset s.4.0 s.4.3) (has_bytes x.bytes (spelled_bytes x.bytes s.4.4.1 content s.4.4.4))))
 
 -- ---- instructions
@@ -204,19 +204,19 @@ layer_has : (Spelled : List Instr → Format) (Body : List Instr → Form Line) 
 layer_has Spelled Body held (Instr-F.Plain op) bytes are (inl s) = has_line (named_has (bare_named op s.0))
 layer_has Spelled Body held (Instr-F.Plain op) bytes are (inr s) = has_line (named_has (of_memory_named op s.0))
 layer_has Spelled Body held (Instr-F.Block t body) bytes are s =
-    has_then (begin_has (codes "block") t refl) (has_then (held body s.4.4.0 (in_front _ _ s.4.4.2 (behind _ _ s.4.2 (behind _ _ s.2 are))) s.4.4.3) end_has)
+    has_then (begin_has (codes "block") t refl) (has_then (held body s.4.4.0 (in_front _ _ s.4.4.2 (following _ _ s.4.2 (following _ _ s.2 are))) s.4.4.3) end_has)
 layer_has Spelled Body held (Instr-F.Loop t body) bytes are s =
-    has_then (begin_has (codes "loop") t refl) (has_then (held body s.4.4.0 (in_front _ _ s.4.4.2 (behind _ _ s.4.2 (behind _ _ s.2 are))) s.4.4.3) end_has)
+    has_then (begin_has (codes "loop") t refl) (has_then (held body s.4.4.0 (in_front _ _ s.4.4.2 (following _ _ s.4.2 (following _ _ s.2 are))) s.4.4.3) end_has)
 layer_has Spelled Body held (Instr-F.If t branches) bytes are (inl (none, s)) =
-    has_then (begin_has (codes "if") t refl) (has_then (held branches.0 s.4.4.0 (in_front _ _ s.4.4.2 (behind _ _ s.4.2 (behind _ _ s.2 are))) s.4.4.3) (subst (λ (branch : List Instr). HasLines (else_end Body branch)) (sym none) end_has))
+    has_then (begin_has (codes "if") t refl) (has_then (held branches.0 s.4.4.0 (in_front _ _ s.4.4.2 (following _ _ s.4.2 (following _ _ s.2 are))) s.4.4.3) (subst (λ (branch : List Instr). HasLines (else_end Body branch)) (sym none) end_has))
 layer_has Spelled Body held (Instr-F.If t branches) bytes are (inr s) =
-    let rest = behind _ _ s.4.2 (behind _ _ s.2 are) in
-    let branch = behind _ _ s.4.4.4.2 (behind _ _ s.4.4.2 rest) in
+    let rest = following _ _ s.4.2 (following _ _ s.2 are) in
+    let branch = following _ _ s.4.4.4.2 (following _ _ s.4.4.2 rest) in
     has_then (begin_has (codes "if") t refl) (has_then (held branches.0 s.4.4.0 (in_front _ _ s.4.4.2 rest) s.4.4.3) (else_end_has Body branches.1 (held branches.1 s.4.4.4.4.0 (in_front _ _ s.4.4.4.4.2 branch) s.4.4.4.4.3)))
 layer_has Spelled Body held (Instr-F.Br l) bytes are s = indexed_has (codes "br") l s.1 refl s.4
 layer_has Spelled Body held (Instr-F.BrIf l) bytes are s = indexed_has (codes "br_if") l s.1 refl s.4
 layer_has Spelled Body held (Instr-F.BrTable targets) bytes are s =
-    let labels = behind _ _ s.4.3.2 (in_front _ _ s.4.2 (behind _ _ s.2 are)) in
+    let labels = following _ _ s.4.3.2 (in_front _ _ s.4.2 (following _ _ s.2 are)) in
     has_line (has_then (has_word (codes "br_table") refl) (has_then (has_each u32 targets.0 (numbers_have targets.0 s.4.3.1 labels s.4.3.4)) (number_has targets.1 s.4.1 s.4.4)))
 layer_has Spelled Body held (Instr-F.Call x) bytes are s = indexed_has (codes "call") x s.1 refl s.4
 layer_has Spelled Body held (Instr-F.CallIndirect x) bytes are s = indexed_has (codes "call_indirect") x s.4.0 refl s.4.3
@@ -247,8 +247,8 @@ record HasCode (f : Func) : Type 0 where
 
 code_has : (f : Func) (bytes : List ℕ) → AreBytes bytes → binary.code f bytes → HasCode f
 code_has f bytes are s =
-    let content : AreBytes s.0 = subst AreBytes s.2.4 (behind _ _ s.2.2 are) in
-    let body = in_front _ _ s.1.4.2 (behind _ _ s.1.2 content) in
+    let content : AreBytes s.0 = subst AreBytes s.2.4 (following _ _ s.2.2 are) in
+    let body = in_front _ _ s.1.4.2 (following _ _ s.1.2 content) in
     let types = has_each val f.locals (vals_have f.locals) in
     record {
       locals = record { items = types.items; spelled = (s.1.3.0, types.spelled); pass = types.pass };
@@ -274,38 +274,38 @@ lines_of {V} F vs h = has_each (λ (v : V). line (F v)) vs (each_line F vs h)
 module_has : (m : Module) (bytes : List ℕ) → AreBytes bytes → SpellsModule bytes m → HasLines (module_lines m)
 module_has m bytes are s =
     let types = s.4.4 in
-    let in_types = behind _ _ s.4.2 (behind _ _ s.2 are) in
+    let in_types = following _ _ s.4.2 (following _ _ s.2 are) in
     let imports = types.4.4 in
-    let in_imports = behind _ _ types.4.2 (behind _ _ types.2 in_types) in
+    let in_imports = following _ _ types.4.2 (following _ _ types.2 in_types) in
     let functions = imports.4.4 in
-    let in_functions = behind _ _ imports.4.2 (behind _ _ imports.2 in_imports) in
+    let in_functions = following _ _ imports.4.2 (following _ _ imports.2 in_imports) in
     let tables = functions.4.4 in
-    let in_tables = behind _ _ functions.4.2 (behind _ _ functions.2 in_functions) in
+    let in_tables = following _ _ functions.4.2 (following _ _ functions.2 in_functions) in
     let memories = tables.4.4 in
-    let in_memories = behind _ _ tables.4.2 (behind _ _ tables.2 in_tables) in
+    let in_memories = following _ _ tables.4.2 (following _ _ tables.2 in_tables) in
     let globals = memories.4.4 in
-    let in_globals = behind _ _ memories.4.2 (behind _ _ memories.2 in_memories) in
+    let in_globals = following _ _ memories.4.2 (following _ _ memories.2 in_memories) in
     let exports = globals.4.4 in
-    let in_exports = behind _ _ globals.4.2 (behind _ _ globals.2 in_globals) in
+    let in_exports = following _ _ globals.4.2 (following _ _ globals.2 in_globals) in
     let start = exports.4.4 in
-    let in_start = behind _ _ exports.4.2 (behind _ _ exports.2 in_exports) in
+    let in_start = following _ _ exports.4.2 (following _ _ exports.2 in_exports) in
     let elems = start.4.4 in
-    let in_elems = behind _ _ start.4.2 (behind _ _ start.2 in_start) in
+    let in_elems = following _ _ start.4.2 (following _ _ start.2 in_start) in
     let codes = elems.4.4 in
-    let in_codes = behind _ _ elems.4.2 (behind _ _ elems.2 in_elems) in
+    let in_codes = following _ _ elems.4.2 (following _ _ elems.2 in_elems) in
     let segments = codes.4.4 in
-    let in_segments = behind _ _ codes.4.2 (behind _ _ codes.2 in_codes) in
-    let all_functypes : AllByRecursion (λ (t : FuncTy). HasWords (listing.functype t)) m.types = section_has 1 binary.functype (λ (t : FuncTy). HasWords (listing.functype t)) m.types types.4.0 (λ t spelled is h. functype_has t) (in_front _ _ types.4.2 (behind _ _ types.2 in_types)) types.4.3 in
-    let all_imports : AllByRecursion (λ (i : Import). HasWords (listing.import i)) m.imports = section_has 2 binary.import (λ (i : Import). HasWords (listing.import i)) m.imports imports.4.0 import_has (in_front _ _ imports.4.2 (behind _ _ imports.2 in_imports)) imports.4.3 in
-    let all_types : AllByRecursion (λ n. HasWords (u32 n)) (map (λ f. f.ty) m.funcs) = section_has 3 formats.u32 (λ n. HasWords (u32 n)) (map (λ f. f.ty) m.funcs) functions.4.0 (λ n spelled is h. number_has n spelled h) (in_front _ _ functions.4.2 (behind _ _ functions.2 in_functions)) functions.4.3 in
-    let all_codes : AllByRecursion HasCode m.funcs = section_has 10 binary.code HasCode m.funcs codes.4.0 code_has (in_front _ _ codes.4.2 (behind _ _ codes.2 in_codes)) codes.4.3 in
+    let in_segments = following _ _ codes.4.2 (following _ _ codes.2 in_codes) in
+    let all_functypes : AllByRecursion (λ (t : FuncTy). HasWords (listing.functype t)) m.types = section_has 1 binary.functype (λ (t : FuncTy). HasWords (listing.functype t)) m.types types.4.0 (λ t spelled is h. functype_has t) (in_front _ _ types.4.2 (following _ _ types.2 in_types)) types.4.3 in
+    let all_imports : AllByRecursion (λ (i : Import). HasWords (listing.import i)) m.imports = section_has 2 binary.import (λ (i : Import). HasWords (listing.import i)) m.imports imports.4.0 import_has (in_front _ _ imports.4.2 (following _ _ imports.2 in_imports)) imports.4.3 in
+    let all_types : AllByRecursion (λ n. HasWords (u32 n)) (map (λ f. f.ty) m.funcs) = section_has 3 formats.u32 (λ n. HasWords (u32 n)) (map (λ f. f.ty) m.funcs) functions.4.0 (λ n spelled is h. number_has n spelled h) (in_front _ _ functions.4.2 (following _ _ functions.2 in_functions)) functions.4.3 in
+    let all_codes : AllByRecursion HasCode m.funcs = section_has 10 binary.code HasCode m.funcs codes.4.0 code_has (in_front _ _ codes.4.2 (following _ _ codes.2 in_codes)) codes.4.3 in
     let all_funcs : AllByRecursion (λ (f : Func). HasLines (listing.func f)) m.funcs = both_of m.funcs (λ f ty code. func_has f ty code) (typed m.funcs all_types) all_codes in
-    let all_tables : AllByRecursion (λ (l : Limits). HasWords (listing.table l)) m.tables = section_has 4 binary.tabletype (λ (l : Limits). HasWords (listing.table l)) m.tables tables.4.0 table_has (in_front _ _ tables.4.2 (behind _ _ tables.2 in_tables)) tables.4.3 in
-    let all_memories : AllByRecursion (λ (l : Limits). HasWords (listing.memory l)) m.memories = section_has 5 binary.memtype (λ (l : Limits). HasWords (listing.memory l)) m.memories memories.4.0 memory_has (in_front _ _ memories.4.2 (behind _ _ memories.2 in_memories)) memories.4.3 in
-    let all_globals : AllByRecursion (λ (g : GlobalDef). HasWords (listing.global g)) m.globals = section_has 6 binary.global (λ (g : GlobalDef). HasWords (listing.global g)) m.globals globals.4.0 global_has (in_front _ _ globals.4.2 (behind _ _ globals.2 in_globals)) globals.4.3 in
-    let all_exports : AllByRecursion (λ (e : Export). HasWords (listing.export e)) m.exports = section_has 7 binary.export (λ (e : Export). HasWords (listing.export e)) m.exports exports.4.0 export_has (in_front _ _ exports.4.2 (behind _ _ exports.2 in_exports)) exports.4.3 in
-    let all_elems : AllByRecursion (λ (e : ElemSegment). HasWords (listing.elem e)) m.elems = section_has 9 binary.elem (λ (e : ElemSegment). HasWords (listing.elem e)) m.elems elems.4.0 elem_has (in_front _ _ elems.4.2 (behind _ _ elems.2 in_elems)) elems.4.3 in
-    let all_segments : AllByRecursion (λ (x : DataSegment). HasWords (listing.segment x)) m.segments = section_has 11 binary.segment (λ (x : DataSegment). HasWords (listing.segment x)) m.segments segments.4.0 segment_has (in_front _ _ segments.4.2 (behind _ _ segments.2 in_segments)) segments.4.3 in
+    let all_tables : AllByRecursion (λ (l : Limits). HasWords (listing.table l)) m.tables = section_has 4 binary.tabletype (λ (l : Limits). HasWords (listing.table l)) m.tables tables.4.0 table_has (in_front _ _ tables.4.2 (following _ _ tables.2 in_tables)) tables.4.3 in
+    let all_memories : AllByRecursion (λ (l : Limits). HasWords (listing.memory l)) m.memories = section_has 5 binary.memtype (λ (l : Limits). HasWords (listing.memory l)) m.memories memories.4.0 memory_has (in_front _ _ memories.4.2 (following _ _ memories.2 in_memories)) memories.4.3 in
+    let all_globals : AllByRecursion (λ (g : GlobalDef). HasWords (listing.global g)) m.globals = section_has 6 binary.global (λ (g : GlobalDef). HasWords (listing.global g)) m.globals globals.4.0 global_has (in_front _ _ globals.4.2 (following _ _ globals.2 in_globals)) globals.4.3 in
+    let all_exports : AllByRecursion (λ (e : Export). HasWords (listing.export e)) m.exports = section_has 7 binary.export (λ (e : Export). HasWords (listing.export e)) m.exports exports.4.0 export_has (in_front _ _ exports.4.2 (following _ _ exports.2 in_exports)) exports.4.3 in
+    let all_elems : AllByRecursion (λ (e : ElemSegment). HasWords (listing.elem e)) m.elems = section_has 9 binary.elem (λ (e : ElemSegment). HasWords (listing.elem e)) m.elems elems.4.0 elem_has (in_front _ _ elems.4.2 (following _ _ elems.2 in_elems)) elems.4.3 in
+    let all_segments : AllByRecursion (λ (x : DataSegment). HasWords (listing.segment x)) m.segments = section_has 11 binary.segment (λ (x : DataSegment). HasWords (listing.segment x)) m.segments segments.4.0 segment_has (in_front _ _ segments.4.2 (following _ _ segments.2 in_segments)) segments.4.3 in
     has_then (lines_of listing.functype m.types all_functypes)
     (has_then (lines_of listing.import m.imports all_imports)
     (has_then (has_each listing.func m.funcs all_funcs)

@@ -119,8 +119,8 @@ first_line (first.Whole i) words = whole i words
 first_line (first.Begin k t) words = (word (kind_word k) then block_result t) words
 
 -- the lines of an instruction behind the one that begins it: what it holds, by the form of its lists, and its end
-abbrev pub behind_first : BlockKind → Option ValTy → (List Instr → Form Line) → Instr → Form Line
-behind_first kind.Block t Body i lines = (body : List Instr) × (i ≡ variant.Block t body) × (Body body then end) lines
-behind_first kind.Loop t Body i lines = (body : List Instr) × (i ≡ variant.Loop t body) × (Body body then end) lines
-behind_first kind.If t Body i lines =
+abbrev pub following_first : BlockKind → Option ValTy → (List Instr → Form Line) → Instr → Form Line
+following_first kind.Block t Body i lines = (body : List Instr) × (i ≡ variant.Block t body) × (Body body then end) lines
+following_first kind.Loop t Body i lines = (body : List Instr) × (i ≡ variant.Loop t body) × (Body body then end) lines
+following_first kind.If t Body i lines =
     (body : List Instr) × (branch : List Instr) × (i ≡ variant.If t (body, branch)) × (Body body then else_end Body branch) lines

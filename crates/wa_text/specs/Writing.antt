@@ -7,8 +7,8 @@ use Rattle.wa_text.specs.Forms.{Form}
 use Rattle.wa_text.specs.Words.{Word, line_text}
 
 -- a word behind another: a blank, and the word
-abbrev pub behind : Word → List ℕ
-behind w = 32 ∷ w
+abbrev pub following : Word → List ℕ
+following w = 32 ∷ w
 
 -- the new text is the old one and items behind it, as each is shown: if any items are of the form, these alone are
 pub record Adds {X : Type 0} (show : X → List ℕ) (F : Form X) (old new : List ℕ) : Type 0 where
@@ -18,7 +18,7 @@ pub record Adds {X : Type 0} (show : X → List ℕ) (F : Form X) (old new : Lis
 
 -- words behind the first of a line
 abbrev pub AddsWords : Form Word → List ℕ → List ℕ → Type 0
-AddsWords F old new = Adds behind F old new
+AddsWords F old new = Adds following F old new
 
 abbrev pub AddsLines : Form (List Word) → List ℕ → List ℕ → Type 0
 AddsLines F old new = Adds line_text F old new

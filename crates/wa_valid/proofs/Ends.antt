@@ -6,33 +6,33 @@ use Rattle.std.proofs.lemmas.Bool.Decides.{nat_tests}
 use Rattle.std.proofs.lemmas.List.{append-nil, take_more}
 use Rattle.std.proofs.lemmas.List.Elements.{All-push}
 use Rattle.std.proofs.lemmas.List.Sorted.{IsNonDecreasingBy-push}
-use Rattle.wa_syntax.specs.declared.locals.Run.{Run}
+use Rattle.wa_syntax.specs.declared.locals.LocalRun.{LocalRun}
 use Rattle.wa_syntax.specs.Locals.{types_of_runs}
 use Rattle.wa_syntax.proofs.Runs.{types_of_runs-push}
 use Rattle.wa_syntax.specs.declared.module.ValTy.{ValTy}
-use Rattle.wa_valid.specs.declared.locals.RunEnd.{RunEnd}
+use Rattle.wa_valid.specs.declared.locals.LocalRunEnd.{LocalRunEnd}
 use Rattle.wa_valid.specs.Ends.{types_of_ends}
 
 -- the end of the last run, or where they begin
-abbrev pub last_end : ℕ → List RunEnd → ℕ
+abbrev pub last_end : ℕ → List LocalRunEnd → ℕ
 last_end from [] = from
 last_end from (run ∷ runs) = last_end run.end runs
 
-pub last_end-push : (from : ℕ) (runs : List RunEnd) (run : RunEnd) → last_end from (runs ++ run ∷ []) ≡ run.end
+pub last_end-push : (from : ℕ) (runs : List LocalRunEnd) (run : LocalRunEnd) → last_end from (runs ++ run ∷ []) ≡ run.end
 last_end-push from [] run = refl
 last_end-push from (first ∷ runs) run = last_end-push first.end runs run
 
-pub types_of_ends-push : (from : ℕ) (runs : List RunEnd) (run : RunEnd) → types_of_ends from (runs ++ run ∷ []) ≡ types_of_ends from runs ++ replicate (run.end - last_end from runs) run.ty
+pub types_of_ends-push : (from : ℕ) (runs : List LocalRunEnd) (run : LocalRunEnd) → types_of_ends from (runs ++ run ∷ []) ≡ types_of_ends from runs ++ replicate (run.end - last_end from runs) run.ty
 types_of_ends-push from [] run = append-nil (replicate (run.end - from) run.ty)
 types_of_ends-push from (first ∷ runs) run =
     ap (λ (types : List ValTy). replicate (first.end - from) first.ty ++ types) (types_of_ends-push first.end runs run) ∙ sym (append_assoc (replicate (first.end - from) first.ty) (types_of_ends first.end runs) (replicate (run.end - last_end first.end runs) run.ty))
 
 -- the ends rise from this number on
-abbrev pub Rise : ℕ → List RunEnd → Type 0
+abbrev pub Rise : ℕ → List LocalRunEnd → Type 0
 Rise from [] = Unit {0}
 Rise from (run ∷ runs) = (from ≤ run.end) × Rise run.end runs
 
-pub Rise-from : (from : ℕ) (runs : List RunEnd) → ((d : RunEnd) → 0 < length runs → from ≤ (get_or runs 0 d).end) → IsNonDecreasingBy (λ (run : RunEnd). run.end) runs → Rise from runs
+pub Rise-from : (from : ℕ) (runs : List LocalRunEnd) → ((d : LocalRunEnd) → 0 < length runs → from ≤ (get_or runs 0 d).end) → IsNonDecreasingBy (λ (run : LocalRunEnd). run.end) runs → Rise from runs
 Rise-from from [] first up = tt
 Rise-from from (run ∷ runs) first up =
     (first run (omega arith), Rise-from run.end runs (λ d some. up 0 1 d (omega arith) (omega arith)) (λ i j d le within. up (suc i) (suc j) d (omega arith) (omega arith)))
@@ -48,36 +48,36 @@ slice_get-past (suc n) ty rest zero past = absurd (omega arith)
 slice_get-past (suc n) ty rest (suc i) past = slice_get-past n ty rest i (omega arith) ∙ ap (slice_get rest) (omega arith)
 
 -- the local at a place is in the first run that ends behind it
-pub slice_get-types_of_ends : (from at k : ℕ) (runs : List RunEnd) → Rise from runs → from ≤ at
-    → ((i : ℕ) (d : RunEnd) → i < k → i < length runs → (get_or runs i d).end ≤ at)
-    → ((d : RunEnd) → k < length runs → at < (get_or runs k d).end)
-    → slice_get (types_of_ends from runs) (at - from) ≡ option_map (λ (run : RunEnd). run.ty) (slice_get runs k)
-slice_get-types_of_ends from at k [] rise low before behind = refl
-slice_get-types_of_ends from at zero (run ∷ runs) rise low before behind =
-    let high : at < run.end = behind run (omega arith) in
+pub slice_get-types_of_ends : (from at k : ℕ) (runs : List LocalRunEnd) → Rise from runs → from ≤ at
+    → ((i : ℕ) (d : LocalRunEnd) → i < k → i < length runs → (get_or runs i d).end ≤ at)
+    → ((d : LocalRunEnd) → k < length runs → at < (get_or runs k d).end)
+    → slice_get (types_of_ends from runs) (at - from) ≡ option_map (λ (run : LocalRunEnd). run.ty) (slice_get runs k)
+slice_get-types_of_ends from at k [] rise low before following = refl
+slice_get-types_of_ends from at zero (run ∷ runs) rise low before following =
+    let high : at < run.end = following run (omega arith) in
     slice_get-within (run.end - from) run.ty (types_of_ends run.end runs) (at - from) (omega arith)
-slice_get-types_of_ends from at (suc k) (run ∷ runs) rise low before behind =
+slice_get-types_of_ends from at (suc k) (run ∷ runs) rise low before following =
     let up : from ≤ run.end = rise.0 in
     let past : run.end ≤ at = before 0 run (omega arith) (omega arith) in
     slice_get-past (run.end - from) run.ty (types_of_ends run.end runs) (at - from) (omega arith)
     ∙ ap (slice_get (types_of_ends run.end runs)) (omega arith)
-    ∙ slice_get-types_of_ends run.end at k runs rise.1 past (λ i d less within. before (suc i) d (omega arith) (omega arith)) (λ d within. behind d (omega arith))
+    ∙ slice_get-types_of_ends run.end at k runs rise.1 past (λ i d less within. before (suc i) d (omega arith) (omega arith)) (λ d within. following d (omega arith))
 
 -- what a search among the ends finds
-pub type_at-point : (runs : List RunEnd) (at k : ℕ) (found : Option RunEnd) → IsNonDecreasingBy (λ (run : RunEnd). run.end) runs → IsPartitionPoint (λ (run : RunEnd). leb run.end at ≡ true) (λ (run : RunEnd). leb run.end at ≡ false) runs k → found ≡ slice_get runs k → option_map (λ (run : RunEnd). run.ty) found ≡ slice_get (types_of_ends 0 runs) at
+pub type_at-point : (runs : List LocalRunEnd) (at k : ℕ) (found : Option LocalRunEnd) → IsNonDecreasingBy (λ (run : LocalRunEnd). run.end) runs → IsPartitionPoint (λ (run : LocalRunEnd). leb run.end at ≡ true) (λ (run : LocalRunEnd). leb run.end at ≡ false) runs k → found ≡ slice_get runs k → option_map (λ (run : LocalRunEnd). run.ty) found ≡ slice_get (types_of_ends 0 runs) at
 type_at-point runs at k found up point is =
     let rise = Rise-from 0 runs (λ d some. omega arith) up in
     let there = slice_get-types_of_ends 0 at k runs rise (omega arith) (λ i d less within. leb-true (get_or runs i d).end at (point.0 i d (omega arith) less)) (λ d within. grind (arith, nat_tests, point.1 k d)) in
-    sym (ap (slice_get (types_of_ends 0 runs)) (omega arith) ∙ there ∙ ap (option_map (λ (run : RunEnd). run.ty)) (sym is))
+    sym (ap (slice_get (types_of_ends 0 runs)) (omega arith) ∙ there ∙ ap (option_map (λ (run : LocalRunEnd). run.ty)) (sym is))
 
 -- one more run
-abbrev pub with_end : List RunEnd → ℕ → ValTy → List RunEnd
+abbrev pub with_end : List LocalRunEnd → ℕ → ValTy → List LocalRunEnd
 with_end ends next ty = ends ++ record { end = next; ty = ty } ∷ []
 
-module _ (runs : List Run) (i : ℕ) (d : Run) (ends : List RunEnd) (end next : ℕ) (within : i < length runs) (sum : next ≡ end + (get_or runs i d).count) where
+module _ (runs : List LocalRun) (i : ℕ) (d : LocalRun) (ends : List LocalRunEnd) (end next : ℕ) (within : i < length runs) (sum : next ≡ end + (get_or runs i d).count) where
   pub types-more : end ≡ last_end 0 ends → types_of_ends 0 ends ≡ types_of_runs (take i runs) → types_of_ends 0 (with_end ends next (get_or runs i d).ty) ≡ types_of_runs (take (i + 1) runs)
   types-more last types =
-      let run : Run = get_or runs i d in
+      let run : LocalRun = get_or runs i d in
       let count : next - last_end 0 ends ≡ run.count = omega arith in
       types_of_ends-push 0 ends (record { end = next; ty = run.ty })
       ∙ ap (λ (n : ℕ). types_of_ends 0 ends ++ replicate n run.ty) count
@@ -85,10 +85,10 @@ module _ (runs : List Run) (i : ℕ) (d : Run) (ends : List RunEnd) (end next : 
       ∙ sym (types_of_runs-push (take i runs) run)
       ∙ ap types_of_runs (sym (take_more runs i d within))
 
-  pub sorted-more : IsNonDecreasingBy (λ (run : RunEnd). run.end) ends → All (λ (run : RunEnd). run.end ≤ end) ends → IsNonDecreasingBy (λ (run : RunEnd). run.end) (with_end ends next (get_or runs i d).ty)
+  pub sorted-more : IsNonDecreasingBy (λ (run : LocalRunEnd). run.end) ends → All (λ (run : LocalRunEnd). run.end ≤ end) ends → IsNonDecreasingBy (λ (run : LocalRunEnd). run.end) (with_end ends next (get_or runs i d).ty)
   sorted-more sorted below =
-      IsNonDecreasingBy-push (λ (run : RunEnd). run.end) ends (record { end = next; ty = (get_or runs i d).ty }) sorted (λ e some. omega (arith, below (length ends - 1) e (omega arith)))
+      IsNonDecreasingBy-push (λ (run : LocalRunEnd). run.end) ends (record { end = next; ty = (get_or runs i d).ty }) sorted (λ e some. omega (arith, below (length ends - 1) e (omega arith)))
 
-  pub below-more : All (λ (run : RunEnd). run.end ≤ end) ends → All (λ (run : RunEnd). run.end ≤ next) (with_end ends next (get_or runs i d).ty)
+  pub below-more : All (λ (run : LocalRunEnd). run.end ≤ end) ends → All (λ (run : LocalRunEnd). run.end ≤ next) (with_end ends next (get_or runs i d).ty)
   below-more below =
-      All-push (λ (run : RunEnd). run.end ≤ next) ends (record { end = next; ty = (get_or runs i d).ty }) (λ k e less. omega (arith, below k e less)) (omega arith)
+      All-push (λ (run : LocalRunEnd). run.end ≤ next) ends (record { end = next; ty = (get_or runs i d).ty }) (λ k e less. omega (arith, below k e less)) (omega arith)

@@ -6,7 +6,7 @@ use Rattle.wa_syntax.specs.declared.opcode.TheConstants.{I32_CLZ, I32_POPCNT, I3
 use Rattle.wa_syntax.specs.declared.opcode.TheConstants.{I64_ADD, I64_ROTR, I32_WRAP_I64, I64_EXTEND_I32_S, I64_EXTEND_I32_U}
 use Rattle.wa_syntax.specs.Instructions as instructions
 use Rattle.wa_syntax.specs.Instructions.{takes_gives, is_from_to}
-use Rattle.wa_valid.specs.declared.memory.Access.{Access}
+use Rattle.wa_valid.specs.declared.memory.MemoryAccess.{MemoryAccess}
 use Rattle.wa_valid.specs.declared.numeric.Effect.{Effect}
 
 -- the type of an instruction with the effect
@@ -25,5 +25,5 @@ arithmetic_type op =
     None
 
 -- the access that the code holds is the definition's, which has its width in bits and its sign besides
-abbrev pub IsAccess : Access → instructions.Access → Type 0
+abbrev pub IsAccess : MemoryAccess → instructions.Access → Type 0
 IsAccess held access = (held.ty ≡ access.ty) × (held.align ≡ access.align)

@@ -4,7 +4,7 @@ ghost use Rattle.std.specs.Prelude.{◌≡◌, ◌+◌, ◌≤◌, ◌++◌, len
 ghost use Rattle.wa_syntax.specs.ValidModule.{context_of, imported_function, imported_table, imported_memory, imported_global};
 ghost use Rattle.wa_valid.specs.Names.{names};
 
-use crate::fault::{Fault, Rule};
+use crate::fault::{Fault, ValidationRule};
 use sqlite_items::Items;
 use std::alloc::Global;
 use wa_syntax::{Func, FuncTy, GlobalDef, GlobalTy, Import, ImportKind, Module};
@@ -122,7 +122,7 @@ fn imported_functions(alloc: Global, imports: &[Import]) -> Result<Items<u32>, F
 }
 
 /// Adds the type of an imported function, if it is one.
-fn add_function(found: &mut Items<u32>, kind: ImportKind) -> Rule
+fn add_function(found: &mut Items<u32>, kind: ImportKind) -> ValidationRule
     ensures ok { OnOk result (found.new ≡ found.old ++ option_to_list (imported_function kind)) }
     ensures err { IfErr result (λ fault. fault ≡ Fault.NoMemory) }
 {
@@ -150,7 +150,7 @@ pub fn imported_globals(alloc: Global, imports: &[Import]) -> Result<Items<Globa
 }
 
 /// Adds the type of an imported global, if it is one.
-fn add_global(found: &mut Items<GlobalTy>, kind: ImportKind) -> Rule
+fn add_global(found: &mut Items<GlobalTy>, kind: ImportKind) -> ValidationRule
     ensures ok { OnOk result (found.new ≡ found.old ++ option_to_list (imported_global kind)) }
     ensures err { IfErr result (λ fault. fault ≡ Fault.NoMemory) }
 {

@@ -8,7 +8,7 @@ ghost use Rattle.wa_valid.specs.Operands.{stack, Answers};
 ghost use Rattle.wa_valid.specs.Rules.{Says};
 
 use crate::context::Context;
-use crate::fault::{Fault, Rule, require};
+use crate::fault::{Fault, ValidationRule, require};
 use crate::operands::Operands;
 use wa_syntax::{FuncTy, ValTy};
 
@@ -27,7 +27,7 @@ fn label_type(labels: &[Option<ValTy>], label: u32) -> Result<Option<ValTy>, Fau
 }
 
 /// `br`: [t1* t?] → [t2*].
-pub fn br(labels: &[Option<ValTy>], operands: &mut Operands, label: u32) -> Rule
+pub fn br(labels: &[Option<ValTy>], operands: &mut Operands, label: u32) -> ValidationRule
     ensures { (c : validity.Context) → c.labels ≡ map option_to_list (reverse labels.now)
         → Answers (IsTyped c (Br label)) (stack operands.old) (stack operands.new) result }
 {
@@ -38,7 +38,7 @@ pub fn br(labels: &[Option<ValTy>], operands: &mut Operands, label: u32) -> Rule
 }
 
 /// `br_if`: [t? i32] → [t?].
-pub fn br_if(labels: &[Option<ValTy>], operands: &mut Operands, label: u32) -> Rule
+pub fn br_if(labels: &[Option<ValTy>], operands: &mut Operands, label: u32) -> ValidationRule
     ensures { (c : validity.Context) → c.labels ≡ map option_to_list (reverse labels.now)
         → Answers (IsTyped c (BrIf label)) (stack operands.old) (stack operands.new) result }
 {
@@ -52,7 +52,7 @@ pub fn br_table(
     operands: &mut Operands,
     table: &[u32],
     default: u32,
-) -> Rule
+) -> ValidationRule
     ensures { (c : validity.Context) → c.labels ≡ map option_to_list (reverse labels.now)
         → Answers (IsTyped c (BrTable table.now default)) (stack operands.old) (stack operands.new) result }
 {
@@ -64,7 +64,7 @@ pub fn br_table(
 }
 
 /// The labels with these numbers all want this.
-fn all_want(labels: &[Option<ValTy>], table: &[u32], wanted: Option<ValTy>) -> Rule
+fn all_want(labels: &[Option<ValTy>], table: &[u32], wanted: Option<ValTy>) -> ValidationRule
     ensures { Says (All (λ label. slice_get (reverse labels.now) label ≡ Some wanted) table.now) result }
 {
     for label in table {
@@ -74,7 +74,7 @@ fn all_want(labels: &[Option<ValTy>], table: &[u32], wanted: Option<ValTy>) -> R
 }
 
 /// The label with this number wants this.
-fn wants(labels: &[Option<ValTy>], label: u32, wanted: Option<ValTy>) -> Rule
+fn wants(labels: &[Option<ValTy>], label: u32, wanted: Option<ValTy>) -> ValidationRule
     ensures { Says (slice_get (reverse labels.now) label ≡ Some wanted) result }
 {
     let found = label_type(labels, label)?;
@@ -82,7 +82,7 @@ fn wants(labels: &[Option<ValTy>], label: u32, wanted: Option<ValTy>) -> Rule
 }
 
 /// `return`: [t1* t?] → [t2*], where the function gives t?.
-pub fn return_(operands: &mut Operands, func: &FuncTy) -> Rule
+pub fn return_(operands: &mut Operands, func: &FuncTy) -> ValidationRule
     ensures { (c : validity.Context) → c.results ≡ func.now.results
         → Answers (IsTyped c Return) (stack operands.old) (stack operands.new) result }
 {
@@ -92,7 +92,7 @@ pub fn return_(operands: &mut Operands, func: &FuncTy) -> Rule
 }
 
 /// A call of a function of this type.
-fn call_of(operands: &mut Operands, func: &FuncTy) -> Rule
+fn call_of(operands: &mut Operands, func: &FuncTy) -> ValidationRule
     ensures { Answers (Gives func.now.params func.now.results) (stack operands.old) (stack operands.new) result }
 {
     operands.pop_all(func.params.as_slice())?;
@@ -100,7 +100,7 @@ fn call_of(operands: &mut Operands, func: &FuncTy) -> Rule
 }
 
 /// `call`, by the type of the function.
-pub fn call(context: &Context, operands: &mut Operands, func: u32) -> Rule
+pub fn call(context: &Context, operands: &mut Operands, func: u32) -> ValidationRule
     ensures { (c : validity.Context) → c.funcs ≡ context.now.funcs → c.types ≡ context.now.types.now
         → Answers (IsTyped c (Call func)) (stack operands.old) (stack operands.new) result }
 {
@@ -110,7 +110,7 @@ pub fn call(context: &Context, operands: &mut Operands, func: u32) -> Rule
 }
 
 /// `call_indirect`, of a function in the table with the type of a number: as a call, with the place in the table on top.
-pub fn call_indirect(context: &Context, operands: &mut Operands, number: u32) -> Rule
+pub fn call_indirect(context: &Context, operands: &mut Operands, number: u32) -> ValidationRule
     ensures { (c : validity.Context) → c.tables ≡ context.now.tables → c.types ≡ context.now.types.now
         → Answers (IsTyped c (CallIndirect number)) (stack operands.old) (stack operands.new) result }
 {

@@ -84,10 +84,10 @@ impl<T: Drop> From<AllocFailed<T>> for Fault {
 }
 
 /// What a rule answers.
-pub type Rule = Result<(), Fault>;
+pub type ValidationRule = Result<(), Fault>;
 
 /// A rule that holds exactly where the condition does.
-pub fn require(condition: bool) -> Rule
+pub fn require(condition: bool) -> ValidationRule
     ensures { Says (IsTrue condition) result }
 {
     if condition {

@@ -10,8 +10,8 @@ ghost use Rattle.wa_valid.specs.Rules.{Says};
 
 use crate::context::Context;
 use crate::control::*;
-use crate::fault::{Fault, Rule};
-use crate::locals::Declared;
+use crate::fault::{Fault, ValidationRule};
+use crate::locals::DeclaredLocals;
 use crate::memory::{load_or_store, memory_grow, memory_size};
 use crate::numeric::numeric;
 use crate::operands::Operands;
@@ -26,7 +26,7 @@ use wa_syntax::{Func, FuncTy, Instr, ValTy};
 pub struct Scope<'a, 'm> {
     context: &'a Context<'m>,
     func: &'a FuncTy,
-    declared: &'a Declared,
+    declared: &'a DeclaredLocals,
     alloc: Global,
 }
 
@@ -34,12 +34,12 @@ pub struct Scope<'a, 'm> {
 type Labels = Items<Option<ValTy>>;
 
 /// A function (3.4.1): its body gives what its type says, and may branch to its end.
-pub fn function(alloc: Global, context: &Context, func: &Func) -> Rule
+pub fn function(alloc: Global, context: &Context, func: &Func) -> ValidationRule
     requires { All (λ ty. length ty.results ≤ 1) context.now.types.now }
     ensures { Says (IsTypedFunction (names context.now) func.now) result }
 {
     let ty = context.type_at(func.ty)?;
-    let declared = Declared::new(alloc, &func.locals)?;
+    let declared = DeclaredLocals::new(alloc, &func.locals)?;
     let scope = Scope {
         context,
         func: ty,
@@ -60,7 +60,7 @@ fn block(
     label: Option<ValTy>,
     ty: Option<ValTy>,
     body: &[Instr],
-) -> Rule
+) -> ValidationRule
     ensures says { Says
         (AreTyped (with_label (option_to_list label) (names_in scope.now labels.old)) (sequence body.now) [] (option_to_list ty)) result }
     ensures labels { OnOk result (labels.new ≡ labels.old) }
@@ -74,7 +74,12 @@ fn block(
 
 /// Instructions one after another (3.3.6).
 #[cycle(instructions)]
-fn sequence(scope: &Scope, labels: &mut Labels, operands: &mut Operands, instrs: &[Instr]) -> Rule
+fn sequence(
+    scope: &Scope,
+    labels: &mut Labels,
+    operands: &mut Operands,
+    instrs: &[Instr],
+) -> ValidationRule
     ensures answers { Answers (AreTyped (names_in scope.now labels.old) (sequence instrs.now))
         (stack operands.old) (stack operands.new) result }
     ensures labels { OnOk result (labels.new ≡ labels.old) }
@@ -87,7 +92,12 @@ fn sequence(scope: &Scope, labels: &mut Labels, operands: &mut Operands, instrs:
 
 /// An instruction (3.3).
 #[cycle(instructions)]
-fn instruction(scope: &Scope, labels: &mut Labels, operands: &mut Operands, instr: &Instr) -> Rule
+fn instruction(
+    scope: &Scope,
+    labels: &mut Labels,
+    operands: &mut Operands,
+    instr: &Instr,
+) -> ValidationRule
     ensures answers { Answers (IsTyped (names_in scope.now labels.old) (instruction instr.now))
         (stack operands.old) (stack operands.new) result }
     ensures labels { OnOk result (labels.new ≡ labels.old) }
@@ -112,7 +122,12 @@ fn instruction(scope: &Scope, labels: &mut Labels, operands: &mut Operands, inst
 }
 
 /// An instruction that holds no others.
-fn simple(scope: &Scope, labels: &[Option<ValTy>], operands: &mut Operands, instr: &Instr) -> Rule
+fn simple(
+    scope: &Scope,
+    labels: &[Option<ValTy>],
+    operands: &mut Operands,
+    instr: &Instr,
+) -> ValidationRule
     requires { HoldsNone instr.now }
     ensures { Answers (IsTyped (names_in scope.now labels.now) (instruction instr.now)) (stack operands.old) (stack operands.new) result }
 {
@@ -140,7 +155,7 @@ fn simple(scope: &Scope, labels: &[Option<ValTy>], operands: &mut Operands, inst
 }
 
 /// An instruction that is its opcode alone.
-fn plain(scope: &Scope, operands: &mut Operands, opcode: u8) -> Rule
+fn plain(scope: &Scope, operands: &mut Operands, opcode: u8) -> ValidationRule
     ensures { (labels : List (Option ValTy))
         → Answers (IsTyped (names_in scope.now labels) (plain opcode)) (stack operands.old) (stack operands.new) result }
 {
@@ -170,7 +185,7 @@ fn plain(scope: &Scope, operands: &mut Operands, opcode: u8) -> Rule
 }
 
 /// `local.get`: [] → [t].
-fn local_get(scope: &Scope, operands: &mut Operands, local: u32) -> Rule
+fn local_get(scope: &Scope, operands: &mut Operands, local: u32) -> ValidationRule
     ensures { (labels : List (Option ValTy))
         → Answers (IsTyped (names_in scope.now labels) (LocalGet local)) (stack operands.old) (stack operands.new) result }
 {
@@ -179,7 +194,7 @@ fn local_get(scope: &Scope, operands: &mut Operands, local: u32) -> Rule
 }
 
 /// `local.set`: [t] → [].
-fn local_set(scope: &Scope, operands: &mut Operands, local: u32) -> Rule
+fn local_set(scope: &Scope, operands: &mut Operands, local: u32) -> ValidationRule
     ensures { (labels : List (Option ValTy))
         → Answers (IsTyped (names_in scope.now labels) (LocalSet local)) (stack operands.old) (stack operands.new) result }
 {
@@ -188,7 +203,7 @@ fn local_set(scope: &Scope, operands: &mut Operands, local: u32) -> Rule
 }
 
 /// `local.tee`: [t] → [t].
-fn local_tee(scope: &Scope, operands: &mut Operands, local: u32) -> Rule
+fn local_tee(scope: &Scope, operands: &mut Operands, local: u32) -> ValidationRule
     ensures { (labels : List (Option ValTy))
         → Answers (IsTyped (names_in scope.now labels) (LocalTee local)) (stack operands.old) (stack operands.new) result }
 {

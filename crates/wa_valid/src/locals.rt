@@ -9,22 +9,22 @@ ghost use Rattle.wa_valid.specs.Ends.{types_of_ends};
 use crate::fault::Fault;
 use std::alloc::Global;
 use std::marker::Model;
-use wa_syntax::{FuncTy, Locals, Run, ValTy};
+use wa_syntax::{FuncTy, LocalRun, Locals, ValTy};
 
 /// A run of declared locals, with the number of those up to its end.
 #[derive(Clone, Copy)]
-pub struct RunEnd {
+pub struct LocalRunEnd {
     end: u64,
     ty: ValTy,
 }
 
 /// The declared locals of a function. Contracts see their types.
 #[derive(Drop)]
-pub struct Declared {
-    ends: Vec<RunEnd>,
+pub struct DeclaredLocals {
+    ends: Vec<LocalRunEnd>,
 }
 
-impl Model for Declared {
+impl Model for DeclaredLocals {
     ghost use Rattle.std.specs.Prelude.{List};
     ghost use Rattle.std.specs.List.Sorted.{IsNonDecreasingBy};
     ghost use Rattle.wa_syntax.specs.declared.module.ValTy.{ValTy};
@@ -37,14 +37,14 @@ impl Model for Declared {
     ghost invariant = { λ d. IsNonDecreasingBy (λ run. run.end) d.ends.items };
 }
 
-impl Declared {
+impl DeclaredLocals {
     /// These locals. Fails where memory runs out.
-    pub fn new(alloc: Global, locals: &Locals) -> Result<Declared, Fault>
+    pub fn new(alloc: Global, locals: &Locals) -> Result<DeclaredLocals, Fault>
         ensures ok { IfOk result (λ declared. declared ≡ locals.now) }
         ensures err { IfErr result (λ fault. fault ≡ Fault.NoMemory) }
     {
         let ends = ends_of(alloc, locals.runs())?;
-        Ok(Declared { ends })
+        Ok(DeclaredLocals { ends })
     }
 
     /// The type of the declared local with a number, if there is one. Takes as many steps as halvings of the runs.
@@ -72,7 +72,7 @@ impl Declared {
 }
 
 /// The runs with the number of locals up to the end of each. A count that no memory holds is taken as want of memory.
-fn ends_of(alloc: Global, runs: &[Run]) -> Result<Vec<RunEnd>, Fault>
+fn ends_of(alloc: Global, runs: &[LocalRun]) -> Result<Vec<LocalRunEnd>, Fault>
     ensures sorted { IfOk result (λ ends. IsNonDecreasingBy (λ run. run.end) ends.items) }
     ensures types { IfOk result (λ ends. types_of_ends 0 ends.items ≡ types_of_runs runs.now) }
     ensures err { IfErr result (λ fault. fault ≡ Fault.NoMemory) }
@@ -81,7 +81,7 @@ fn ends_of(alloc: Global, runs: &[Run]) -> Result<Vec<RunEnd>, Fault>
     let mut end: u64 = 0;
     for run in runs {
         end = end_after(end, run.count)?;
-        ends.push(RunEnd { end, ty: run.ty })?;
+        ends.push(LocalRunEnd { end, ty: run.ty })?;
     }
     Ok(ends)
 }
@@ -98,7 +98,7 @@ fn end_after(end: u64, count: u32) -> Result<u64, Fault>
 }
 
 /// The type of the local with a number, if there is one, by the ends of the runs.
-fn type_at(ends: &[RunEnd], at: u64) -> Option<ValTy>
+fn type_at(ends: &[LocalRunEnd], at: u64) -> Option<ValTy>
     requires { IsNonDecreasingBy (λ run. run.end) ends.now }
     ensures { result ≡ slice_get (types_of_ends 0 ends.now) at }
 {

@@ -10,14 +10,14 @@ ghost use Rattle.wa_valid.specs.Operands.{stack, Answers};
 ghost use Rattle.wa_valid.specs.Rules.{Says};
 
 use crate::context::Context;
-use crate::fault::{Fault, Rule, require};
+use crate::fault::{Fault, ValidationRule, require};
 use crate::operands::Operands;
 use wa_syntax::ValTy::{self, I32, I64};
 use wa_syntax::opcode::*;
 
 /// What a load or a store moves.
 #[derive(Clone, Copy)]
-pub struct Access {
+pub struct MemoryAccess {
     /// The type of the value.
     ty: ValTy,
     /// The greatest alignment, as a power of two of bytes.
@@ -25,14 +25,14 @@ pub struct Access {
 }
 
 /// An access of a type and a greatest alignment.
-fn some_access(ty: ValTy, align: u32) -> Option<Access>
+fn some_access(ty: ValTy, align: u32) -> Option<MemoryAccess>
     ensures { result ≡ Some (record { ty = ty; align = align }) }
 {
-    Some(Access { ty, align })
+    Some(MemoryAccess { ty, align })
 }
 
 /// The load with an opcode, if there is one.
-fn load(opcode: u8) -> Option<Access>
+fn load(opcode: u8) -> Option<MemoryAccess>
     ensures load { MatchOption result (load_of opcode ≡ None) (λ held. (a : instructions.Access) × (load_of opcode ≡ Some a)
         × IsAccess held a) }
     ensures apart { MatchOption result (Unit {0}) (λ held. store_of opcode ≡ None) }
@@ -55,7 +55,7 @@ fn load(opcode: u8) -> Option<Access>
 }
 
 /// The store with an opcode, if there is one.
-fn store(opcode: u8) -> Option<Access>
+fn store(opcode: u8) -> Option<MemoryAccess>
     ensures { MatchOption result (store_of opcode ≡ None) (λ held. (a : instructions.Access) × (store_of opcode ≡ Some a)
         × IsAccess held a) }
 {
@@ -72,14 +72,19 @@ fn store(opcode: u8) -> Option<Access>
 }
 
 /// There is a memory, and the alignment, as a power of two, isn't greater than the width.
-fn aligned(context: &Context, access: Access, align: u32) -> Rule
+fn aligned(context: &Context, access: MemoryAccess, align: u32) -> ValidationRule
     ensures { Says ((0 < context.now.memories) × (align ≤ access.align)) result }
 {
     require(0 < context.memories && align <= access.align)
 }
 
 /// A load, [i32] → [t], or a store, [i32 t] → [].
-pub fn load_or_store(context: &Context, operands: &mut Operands, opcode: u8, align: u32) -> Rule
+pub fn load_or_store(
+    context: &Context,
+    operands: &mut Operands,
+    opcode: u8,
+    align: u32,
+) -> ValidationRule
     ensures { (c : validity.Context) (offset : ℕ) → c.memories ≡ context.now.memories
         → Answers (IsTyped c (Memory opcode align offset)) (stack operands.old) (stack operands.new) result }
 {
@@ -97,7 +102,7 @@ pub fn load_or_store(context: &Context, operands: &mut Operands, opcode: u8, ali
 }
 
 /// `memory.size`: [] → [i32].
-pub fn memory_size(context: &Context, operands: &mut Operands) -> Rule
+pub fn memory_size(context: &Context, operands: &mut Operands) -> ValidationRule
     ensures { (c : validity.Context) → c.memories ≡ context.now.memories
         → Answers (IsTyped c MemorySize) (stack operands.old) (stack operands.new) result }
 {
@@ -106,7 +111,7 @@ pub fn memory_size(context: &Context, operands: &mut Operands) -> Rule
 }
 
 /// `memory.grow`: [i32] → [i32].
-pub fn memory_grow(context: &Context, operands: &mut Operands) -> Rule
+pub fn memory_grow(context: &Context, operands: &mut Operands) -> ValidationRule
     ensures { (c : validity.Context) → c.memories ≡ context.now.memories
         → Answers (IsTyped c MemoryGrow) (stack operands.old) (stack operands.new) result }
 {

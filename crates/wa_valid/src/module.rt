@@ -7,7 +7,7 @@ ghost use Rattle.wa_valid.specs.Names.{names};
 ghost use Rattle.wa_valid.specs.Rules.{Says};
 
 use crate::context::{Context, imported_globals};
-use crate::fault::{Fault, Rule, require};
+use crate::fault::{Fault, ValidationRule, require};
 use crate::types::{external_type, function_type, memory_type, table_type};
 use indexmap::IndexSet;
 use std::alloc::Global;
@@ -17,7 +17,7 @@ use wa_syntax::{
 };
 
 /// All rules of a module outside the bodies (3.4.10).
-pub fn outside_bodies(alloc: Global, context: &Context, m: &Module) -> Rule
+pub fn outside_bodies(alloc: Global, context: &Context, m: &Module) -> ValidationRule
     ensures { Says (IsValidOutside m.now (names context.now)) result }
 {
     require(context.tables <= 1)?;
@@ -36,7 +36,7 @@ pub fn outside_bodies(alloc: Global, context: &Context, m: &Module) -> Rule
 }
 
 /// The types of functions (3.2.3).
-fn function_types(types: &[FuncTy]) -> Rule
+fn function_types(types: &[FuncTy]) -> ValidationRule
     ensures { Says (All (λ ty. length ty.results ≤ 1) types.now) result }
 {
     for ty in types {
@@ -46,7 +46,7 @@ fn function_types(types: &[FuncTy]) -> Rule
 }
 
 /// Functions without their bodies (3.4.1): the type of each exists.
-fn functions(types: &[FuncTy], funcs: &[Func]) -> Rule
+fn functions(types: &[FuncTy], funcs: &[Func]) -> ValidationRule
     ensures { Says (All (λ func. func.ty < length types.now) funcs.now) result }
 {
     for func in funcs {
@@ -56,14 +56,14 @@ fn functions(types: &[FuncTy], funcs: &[Func]) -> Rule
 }
 
 /// There is a type with this number.
-fn type_exists(types: &[FuncTy], ty: u32) -> Rule
+fn type_exists(types: &[FuncTy], ty: u32) -> ValidationRule
     ensures { Says (ty < length types.now) result }
 {
     require((ty as usize) < types.len())
 }
 
 /// Tables (3.4.2).
-fn tables(tables: &[Limits]) -> Rule
+fn tables(tables: &[Limits]) -> ValidationRule
     ensures { Says (All IsTable tables.now) result }
 {
     for table in tables {
@@ -73,7 +73,7 @@ fn tables(tables: &[Limits]) -> Rule
 }
 
 /// Memories (3.4.3).
-fn memories(memories: &[Limits]) -> Rule
+fn memories(memories: &[Limits]) -> ValidationRule
     ensures { Says (All IsMemory memories.now) result }
 {
     for memory in memories {
@@ -83,7 +83,7 @@ fn memories(memories: &[Limits]) -> Rule
 }
 
 /// Globals (3.4.4): the initial value of each has its type, and reads imported globals alone.
-fn globals(alloc: Global, m: &Module) -> Rule
+fn globals(alloc: Global, m: &Module) -> ValidationRule
     ensures { Says (All (λ global. IsConstant (imported imported_global m.now) global.ty.val global.init) m.now.globals) result }
 {
     let known = imported_globals(alloc, m.imports.as_slice())?;
@@ -91,7 +91,7 @@ fn globals(alloc: Global, m: &Module) -> Rule
 }
 
 /// The initial values of globals, which may read the constant ones of the known globals.
-fn initial_values(known: &[GlobalTy], globals: &[GlobalDef]) -> Rule
+fn initial_values(known: &[GlobalTy], globals: &[GlobalDef]) -> ValidationRule
     ensures { Says (All (λ global. IsConstant known.now global.ty.val global.init) globals.now) result }
 {
     for global in globals {
@@ -101,7 +101,7 @@ fn initial_values(known: &[GlobalTy], globals: &[GlobalDef]) -> Rule
 }
 
 /// A constant expression of a type (3.3.7), which may read the constant ones of these globals.
-fn constant_expression(globals: &[GlobalTy], init: Init, ty: ValTy) -> Rule
+fn constant_expression(globals: &[GlobalTy], init: Init, ty: ValTy) -> ValidationRule
     ensures { Says (IsConstant globals.now ty init) result }
 {
     match init {
@@ -115,7 +115,7 @@ fn constant_expression(globals: &[GlobalTy], init: Init, ty: ValTy) -> Rule
 }
 
 /// Element segments (3.4.5).
-fn element_segments(context: &Context, elems: &[ElemSegment]) -> Rule
+fn element_segments(context: &Context, elems: &[ElemSegment]) -> ValidationRule
     ensures { Says (All (IsElem (names context.now)) elems.now) result }
 {
     for elem in elems {
@@ -125,7 +125,7 @@ fn element_segments(context: &Context, elems: &[ElemSegment]) -> Rule
 }
 
 /// An element segment (3.4.5): the table and the functions exist, and the offset is an i32.
-fn element_segment(context: &Context, elem: &ElemSegment) -> Rule
+fn element_segment(context: &Context, elem: &ElemSegment) -> ValidationRule
     ensures { Says (IsElem (names context.now) elem.now) result }
 {
     require((elem.table as usize) < context.tables)?;
@@ -134,7 +134,7 @@ fn element_segment(context: &Context, elem: &ElemSegment) -> Rule
 }
 
 /// The functions of an element segment exist.
-fn functions_exist(context: &Context, funcs: &[u32]) -> Rule
+fn functions_exist(context: &Context, funcs: &[u32]) -> ValidationRule
     ensures { Says (All (λ func. func < length context.now.funcs) funcs.now) result }
 {
     for func in funcs {
@@ -144,14 +144,14 @@ fn functions_exist(context: &Context, funcs: &[u32]) -> Rule
 }
 
 /// There is a function with this number.
-fn function_exists(context: &Context, func: u32) -> Rule
+fn function_exists(context: &Context, func: u32) -> ValidationRule
     ensures { Says (func < length context.now.funcs) result }
 {
     require((func as usize) < context.funcs.len())
 }
 
 /// Data segments (3.4.6).
-fn data_segments(context: &Context, segments: &[DataSegment]) -> Rule
+fn data_segments(context: &Context, segments: &[DataSegment]) -> ValidationRule
     ensures { Says (All (IsSegment (names context.now)) segments.now) result }
 {
     for segment in segments {
@@ -161,7 +161,7 @@ fn data_segments(context: &Context, segments: &[DataSegment]) -> Rule
 }
 
 /// A data segment (3.4.6): the memory exists, and the offset is an i32.
-fn data_segment(context: &Context, segment: &DataSegment) -> Rule
+fn data_segment(context: &Context, segment: &DataSegment) -> ValidationRule
     ensures { Says (IsSegment (names context.now) segment.now) result }
 {
     require((segment.memory as usize) < context.memories)?;
@@ -169,7 +169,7 @@ fn data_segment(context: &Context, segment: &DataSegment) -> Rule
 }
 
 /// The start function (3.4.7): it exists, and has no argument and no result.
-fn start(context: &Context, start: Option<u32>) -> Rule
+fn start(context: &Context, start: Option<u32>) -> ValidationRule
     ensures { Says (IfSome start (IsStart (names context.now))) result }
 {
     match start {
@@ -179,7 +179,7 @@ fn start(context: &Context, start: Option<u32>) -> Rule
 }
 
 /// The function with this number exists, and has no argument and no result.
-fn start_function(context: &Context, func: u32) -> Rule
+fn start_function(context: &Context, func: u32) -> ValidationRule
     ensures { Says (IsStart (names context.now) func) result }
 {
     let number = context.func_type_number(func)?;
@@ -188,7 +188,7 @@ fn start_function(context: &Context, func: u32) -> Rule
 }
 
 /// Exports (3.4.8): what each names exists.
-fn exports(context: &Context, exports: &[Export]) -> Rule
+fn exports(context: &Context, exports: &[Export]) -> ValidationRule
     ensures { Says (All (λ export. IsExport (names context.now) export.kind) exports.now) result }
 {
     for export in exports {
@@ -198,7 +198,7 @@ fn exports(context: &Context, exports: &[Export]) -> Rule
 }
 
 /// What is exported exists (3.4.8).
-fn export_kind(context: &Context, kind: ExportKind) -> Rule
+fn export_kind(context: &Context, kind: ExportKind) -> ValidationRule
     ensures { Says (IsExport (names context.now) kind) result }
 {
     match kind {
@@ -210,7 +210,7 @@ fn export_kind(context: &Context, kind: ExportKind) -> Rule
 }
 
 /// The names of exports differ (3.4.10).
-fn export_names(alloc: Global, exports: &[Export]) -> Rule
+fn export_names(alloc: Global, exports: &[Export]) -> ValidationRule
     ensures { Says (AllPairs ◌≢◌ (map (λ export. export.name) exports.now)) result }
 {
     let mut names: IndexSet<&[u8]> = IndexSet::new(alloc);
@@ -222,7 +222,7 @@ fn export_names(alloc: Global, exports: &[Export]) -> Rule
 }
 
 /// Imports (3.4.9): the type of each is valid.
-fn imports(context: &Context, imports: &[Import]) -> Rule
+fn imports(context: &Context, imports: &[Import]) -> ValidationRule
     ensures { Says (All (λ import. IsImport (names context.now) import.kind) imports.now) result }
 {
     for import in imports {

@@ -6,7 +6,7 @@ ghost use Rattle.wa_syntax.specs.Validity.{Context, IsTyped};
 ghost use Rattle.wa_valid.specs.Effects.{type_of_effect, arithmetic_type};
 ghost use Rattle.wa_valid.specs.Operands.{stack, Answers};
 
-use crate::fault::{Fault, Rule};
+use crate::fault::{Fault, ValidationRule};
 use crate::operands::Operands;
 use wa_syntax::ValTy::{self, I32, I64};
 use wa_syntax::opcode::*;
@@ -20,7 +20,7 @@ pub struct Effect {
 }
 
 /// A numeric instruction other than the constants, by its opcode.
-pub fn numeric(operands: &mut Operands, opcode: u8) -> Rule
+pub fn numeric(operands: &mut Operands, opcode: u8) -> ValidationRule
     ensures { (c : Context) → Answers (IsTyped c (Numeric opcode)) (stack operands.old) (stack operands.new) result }
 {
     match effect_of(opcode) {

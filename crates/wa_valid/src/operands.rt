@@ -6,7 +6,7 @@ ghost use Rattle.wa_syntax.specs.Validity.{Context, Gives, Takes, IsTyped};
 ghost use Rattle.wa_valid.specs.Operands.{stack, no_operands, any_operands, with_operand, IsOf, IsBoth, AreApart, Fits, Answers, TakesOff};
 ghost use Rattle.wa_valid.specs.Rules.{Says};
 
-use crate::fault::{Fault, Rule, require};
+use crate::fault::{Fault, ValidationRule, require};
 use std::alloc::Global;
 use wa_syntax::ValTy;
 
@@ -59,7 +59,7 @@ impl Operands {
     }
 
     /// Adds an operand.
-    fn add(&mut self, operand: Operand) -> Rule
+    fn add(&mut self, operand: Operand) -> ValidationRule
         ensures ok { OnOk result (stack self.new ≡ with_operand operand (stack self.old)) }
         ensures err { IfErr result (λ fault. fault ≡ Fault.NoMemory) }
     {
@@ -81,7 +81,7 @@ impl Operands {
     }
 
     /// Adds an operand of a type.
-    fn push(&mut self, ty: ValTy) -> Rule
+    fn push(&mut self, ty: ValTy) -> ValidationRule
         ensures answers { Answers (Gives [] (ty ∷ [])) (stack self.old) (stack self.new) result }
         ensures err { IfErr result (λ fault. fault ≡ Fault.NoMemory) }
     {
@@ -89,7 +89,7 @@ impl Operands {
     }
 
     /// Takes the last operand off, which has to be of a type.
-    fn pop(&mut self, ty: ValTy) -> Rule
+    fn pop(&mut self, ty: ValTy) -> ValidationRule
         ensures { Answers (Gives (ty ∷ []) []) (stack self.old) (stack self.new) result }
     {
         let operand = self.take()?;
@@ -97,7 +97,7 @@ impl Operands {
     }
 
     /// Adds what a block or a label gives, if anything.
-    pub fn push_result(&mut self, ty: Option<ValTy>) -> Rule
+    pub fn push_result(&mut self, ty: Option<ValTy>) -> ValidationRule
         ensures { Answers (Gives [] (option_to_list ty)) (stack self.old) (stack self.new) result }
     {
         match ty {
@@ -107,7 +107,7 @@ impl Operands {
     }
 
     /// Takes off what a block or a label wants, if anything.
-    pub fn pop_result(&mut self, ty: Option<ValTy>) -> Rule
+    pub fn pop_result(&mut self, ty: Option<ValTy>) -> ValidationRule
         ensures { Answers (Gives (option_to_list ty) []) (stack self.old) (stack self.new) result }
     {
         match ty {
@@ -117,7 +117,7 @@ impl Operands {
     }
 
     /// Adds the results of a function.
-    pub fn push_all(&mut self, types: &[ValTy]) -> Rule
+    pub fn push_all(&mut self, types: &[ValTy]) -> ValidationRule
         ensures { Answers (Gives [] types.now) (stack self.old) (stack self.new) result }
     {
         for ty in types {
@@ -128,7 +128,7 @@ impl Operands {
 
     /// Takes operands of these types off, the last one first. Where the place can't be reached and no operand is left,
     /// the others are not gone through, so that a call takes no longer than its operands took.
-    pub fn pop_all(&mut self, types: &[ValTy]) -> Rule
+    pub fn pop_all(&mut self, types: &[ValTy]) -> ValidationRule
         ensures { Answers (Gives types.now []) (stack self.old) (stack self.new) result }
     {
         let mut rest = types;
@@ -162,7 +162,7 @@ impl Operands {
         first: Option<ValTy>,
         second: Option<ValTy>,
         given: Option<ValTy>,
-    ) -> Rule
+    ) -> ValidationRule
         ensures { Answers (Gives (option_to_list first ++ option_to_list second) (option_to_list given))
             (stack self.old) (stack self.new) result }
     {
@@ -172,7 +172,7 @@ impl Operands {
     }
 
     /// `drop` (3.3.2): [t] → [].
-    pub fn drop_one(&mut self) -> Rule
+    pub fn drop_one(&mut self) -> ValidationRule
         ensures { (c : Context) → Answers (IsTyped c DropInstruction) (stack self.old) (stack self.new) result }
     {
         self.take()?;
@@ -180,7 +180,7 @@ impl Operands {
     }
 
     /// The operands of `select` (3.3.2): two of one type below an i32, of which one stays.
-    pub fn select(&mut self) -> Rule
+    pub fn select(&mut self) -> ValidationRule
         ensures { (c : Context) → Answers (IsTyped c Select) (stack self.old) (stack self.new) result }
     {
         self.pop(ValTy::I32)?;
@@ -201,7 +201,7 @@ impl Operands {
     }
 
     /// Ends a block that has to give a result of this type, if any, and no more.
-    pub fn finish(&mut self, ty: Option<ValTy>) -> Rule
+    pub fn finish(&mut self, ty: Option<ValTy>) -> ValidationRule
         ensures { Says (Fits (stack self.old) (option_to_list ty)) result }
     {
         self.pop_result(ty)?;

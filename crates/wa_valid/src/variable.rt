@@ -7,11 +7,11 @@ ghost use Rattle.wa_syntax.specs.Validity as validity;
 ghost use Rattle.wa_valid.specs.Operands.{stack, Answers};
 
 use crate::context::Context;
-use crate::fault::{Rule, require};
+use crate::fault::{ValidationRule, require};
 use crate::operands::Operands;
 
 /// `global.get`: [] → [t].
-pub fn global_get(context: &Context, operands: &mut Operands, global: u32) -> Rule
+pub fn global_get(context: &Context, operands: &mut Operands, global: u32) -> ValidationRule
     ensures { (c : validity.Context) → c.globals ≡ context.now.globals
         → Answers (IsTyped c (GlobalGet global)) (stack operands.old) (stack operands.new) result }
 {
@@ -20,7 +20,7 @@ pub fn global_get(context: &Context, operands: &mut Operands, global: u32) -> Ru
 }
 
 /// `global.set`, of a mutable global: [t] → [].
-pub fn global_set(context: &Context, operands: &mut Operands, global: u32) -> Rule
+pub fn global_set(context: &Context, operands: &mut Operands, global: u32) -> ValidationRule
     ensures { (c : validity.Context) → c.globals ≡ context.now.globals
         → Answers (IsTyped c (GlobalSet global)) (stack operands.old) (stack operands.new) result }
 {

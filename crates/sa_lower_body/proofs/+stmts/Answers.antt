@@ -1,9 +1,9 @@
 -- The elements of lists, and the parts of a statement.
 use Rattle.std.proofs.Common.{rules, ◌≡◌, ◌∷◌, length, drop, get_or, ◌<◌}
 use Rattle.std.proofs.lemmas.Slice.Zip.{Zip-so_far}
-use Rattle.sa_core.specs.declared.stmt.StmtCore.{the_lemmas}
-use Rattle.sa_lower_body.specs.Typed.{IsArm, IsBranch, IsEntry}
-use Rattle.sa_lower_body.proofs.Parts as parts
+use Rattle.sa_typed.specs.declared.stmt.TypedStmt.{the_lemmas}
+use Rattle.sa_lower_body.specs.TypedStatements.{IsArm, IsBranch, IsEntry}
+use Rattle.sa_lower_body.proofs.StmtParts as parts
 use Rattle.sa_lower_body.proofs.+stmts.Goals as goal
 
 pub entries::if_entries-if_entry-requires : goal.entries::if_entries-if_entry-requires

@@ -7,14 +7,14 @@ use wa_syntax::*;
 
 /// A part of a module. Names of imports are empty.
 #[derive(Clone, Copy)]
-pub enum Part<'a> {
+pub enum ModuleField<'a> {
     Type(&'a [ValTy], &'a [ValTy]),
     ImportFunc(u32),
     ImportTable(u32, Option<u32>),
     ImportMemory(u32, Option<u32>),
     ImportGlobal(ValTy, bool),
     /// A function with two locals of 32 bits and one of 64.
-    Func(u32, &'a [Step<'a>]),
+    Func(u32, &'a [FlatInstr<'a>]),
     Table(u32, Option<u32>),
     Memory(u32, Option<u32>),
     OwnGlobal(ValTy, bool, Init),
@@ -28,7 +28,7 @@ pub enum Part<'a> {
 
 /// A step of a body, as the binary format has them. Each `If` has its `Else`.
 #[derive(Clone, Copy)]
-pub enum Step<'a> {
+pub enum FlatInstr<'a> {
     Op(u8),
     Block(Option<ValTy>),
     Loop(Option<ValTy>),
@@ -51,7 +51,7 @@ pub enum Step<'a> {
 }
 
 /// The module of these parts.
-pub fn module(alloc: Global, parts: &[Part]) -> Result<Module, Fail> {
+pub fn module(alloc: Global, parts: &[ModuleField]) -> Result<Module, Fail> {
     let mut m = Module {
         types: Items::new(alloc),
         imports: Items::new(alloc),
@@ -71,26 +71,26 @@ pub fn module(alloc: Global, parts: &[Part]) -> Result<Module, Fail> {
 }
 
 /// Adds a part.
-fn add(alloc: Global, m: &mut Module, part: Part) -> Result<(), Fail> {
+fn add(alloc: Global, m: &mut Module, part: ModuleField) -> Result<(), Fail> {
     match part {
-        Part::Type(params, results) => m.types.push(FuncTy {
+        ModuleField::Type(params, results) => m.types.push(FuncTy {
             params: Items::from_slice(alloc, params)?,
             results: Items::from_slice(alloc, results)?,
         })?,
-        Part::Func(ty, steps) => m.funcs.push(func(alloc, ty, steps)?)?,
-        Part::Table(min, max) => m.tables.push(Limits { min, max })?,
-        Part::Memory(min, max) => m.memories.push(Limits { min, max })?,
-        Part::OwnGlobal(val, mutable, init) => m.globals.push(GlobalDef {
+        ModuleField::Func(ty, steps) => m.funcs.push(func(alloc, ty, steps)?)?,
+        ModuleField::Table(min, max) => m.tables.push(Limits { min, max })?,
+        ModuleField::Memory(min, max) => m.memories.push(Limits { min, max })?,
+        ModuleField::OwnGlobal(val, mutable, init) => m.globals.push(GlobalDef {
             ty: GlobalTy { val, mutable },
             init,
         })?,
-        Part::Start(func) => m.start = Some(func),
-        Part::Elem(table, offset, funcs) => m.elems.push(ElemSegment {
+        ModuleField::Start(func) => m.start = Some(func),
+        ModuleField::Elem(table, offset, funcs) => m.elems.push(ElemSegment {
             table,
             offset,
             funcs: Items::from_slice(alloc, funcs)?,
         })?,
-        Part::Data(memory, offset) => m.segments.push(DataSegment {
+        ModuleField::Data(memory, offset) => m.segments.push(DataSegment {
             memory,
             offset,
             bytes: Items::new(alloc),
@@ -104,12 +104,12 @@ fn add(alloc: Global, m: &mut Module, part: Part) -> Result<(), Fail> {
 }
 
 /// Adds a part that is an import.
-fn add_import(alloc: Global, m: &mut Module, part: Part) -> Result<(), Fail> {
+fn add_import(alloc: Global, m: &mut Module, part: ModuleField) -> Result<(), Fail> {
     let kind = match part {
-        Part::ImportFunc(ty) => ImportKind::Func(ty),
-        Part::ImportTable(min, max) => ImportKind::Table(Limits { min, max }),
-        Part::ImportMemory(min, max) => ImportKind::Memory(Limits { min, max }),
-        Part::ImportGlobal(val, mutable) => ImportKind::Global(GlobalTy { val, mutable }),
+        ModuleField::ImportFunc(ty) => ImportKind::Func(ty),
+        ModuleField::ImportTable(min, max) => ImportKind::Table(Limits { min, max }),
+        ModuleField::ImportMemory(min, max) => ImportKind::Memory(Limits { min, max }),
+        ModuleField::ImportGlobal(val, mutable) => ImportKind::Global(GlobalTy { val, mutable }),
         _ => return Ok(()),
     };
     m.imports.push(Import {
@@ -121,11 +121,11 @@ fn add_import(alloc: Global, m: &mut Module, part: Part) -> Result<(), Fail> {
 }
 
 /// Adds a part that is an export.
-fn add_export(alloc: Global, m: &mut Module, part: Part) -> Result<(), Fail> {
+fn add_export(alloc: Global, m: &mut Module, part: ModuleField) -> Result<(), Fail> {
     let (name, kind) = match part {
-        Part::ExportFunc(name, func) => (name, ExportKind::Func(func)),
-        Part::ExportMemory(name, memory) => (name, ExportKind::Memory(memory)),
-        Part::ExportGlobal(name, global) => (name, ExportKind::Global(global)),
+        ModuleField::ExportFunc(name, func) => (name, ExportKind::Func(func)),
+        ModuleField::ExportMemory(name, memory) => (name, ExportKind::Memory(memory)),
+        ModuleField::ExportGlobal(name, global) => (name, ExportKind::Global(global)),
         _ => return Ok(()),
     };
     let name = Name::from_slice(alloc, name)?;
@@ -134,7 +134,7 @@ fn add_export(alloc: Global, m: &mut Module, part: Part) -> Result<(), Fail> {
 }
 
 /// A function of a type, with its body.
-fn func(alloc: Global, ty: u32, steps: &[Step]) -> Result<Func, Fail> {
+fn func(alloc: Global, ty: u32, steps: &[FlatInstr]) -> Result<Func, Fail> {
     let mut locals = Locals::new(alloc);
     locals.push(2, ValTy::I32)?;
     locals.push(1, ValTy::I64)?;
@@ -147,29 +147,29 @@ fn func(alloc: Global, ty: u32, steps: &[Step]) -> Result<Func, Fail> {
 
 /// A block whose end is not reached yet.
 #[derive(Drop)]
-struct Open<'a> {
+struct PendingBlock<'a> {
     before: Items<Instr>,
-    start: Step<'a>,
+    start: FlatInstr<'a>,
     then: Items<Instr>,
 }
 
 /// The instructions that steps stand for.
-fn body(alloc: Global, steps: &[Step]) -> Result<Items<Instr>, Fail> {
-    let mut open: Vec<Open> = Vec::new(alloc);
+fn body(alloc: Global, steps: &[FlatInstr]) -> Result<Items<Instr>, Fail> {
+    let mut open: Vec<PendingBlock> = Vec::new(alloc);
     let mut body = Items::new(alloc);
     for step in steps {
         match step {
-            Step::Block(_) | Step::Loop(_) | Step::If(_) => {
-                open.push(Open {
+            FlatInstr::Block(_) | FlatInstr::Loop(_) | FlatInstr::If(_) => {
+                open.push(PendingBlock {
                     before: body,
                     start: *step,
                     then: Items::new(alloc),
                 })?;
                 body = Items::new(alloc);
             }
-            Step::Else => {
-                if let Some(Open { before, start, .. }) = open.pop() {
-                    open.push(Open {
+            FlatInstr::Else => {
+                if let Some(PendingBlock { before, start, .. }) = open.pop() {
+                    open.push(PendingBlock {
                         before,
                         start,
                         then: body,
@@ -177,7 +177,7 @@ fn body(alloc: Global, steps: &[Step]) -> Result<Items<Instr>, Fail> {
                     body = Items::new(alloc);
                 }
             }
-            Step::End => {
+            FlatInstr::End => {
                 if let Some(block) = open.pop() {
                     body = closed(alloc, block, body)?;
                 }
@@ -189,40 +189,40 @@ fn body(alloc: Global, steps: &[Step]) -> Result<Items<Instr>, Fail> {
 }
 
 /// The instructions before a block, and the block, which ends with these.
-fn closed(alloc: Global, block: Open, body: Items<Instr>) -> Result<Items<Instr>, Fail> {
-    let Open {
+fn closed(alloc: Global, block: PendingBlock, body: Items<Instr>) -> Result<Items<Instr>, Fail> {
+    let PendingBlock {
         mut before,
         start,
         then,
     } = block;
     before.push(match start {
-        Step::If(ty) => Instr::if_of(alloc, ty, then, body)?,
-        Step::Loop(ty) => Instr::loop_of(alloc, ty, body)?,
-        Step::Block(ty) => Instr::block_of(alloc, ty, body)?,
+        FlatInstr::If(ty) => Instr::if_of(alloc, ty, then, body)?,
+        FlatInstr::Loop(ty) => Instr::loop_of(alloc, ty, body)?,
+        FlatInstr::Block(ty) => Instr::block_of(alloc, ty, body)?,
         _ => Instr::block_of(alloc, None, body)?,
     })?;
     Ok(before)
 }
 
 /// An instruction that holds no others.
-fn simple(alloc: Global, step: Step) -> Result<Instr, Fail> {
+fn simple(alloc: Global, step: FlatInstr) -> Result<Instr, Fail> {
     Ok(match step {
-        Step::Op(opcode) => Instr::Plain(opcode),
-        Step::Br(label) => Instr::Br(label),
-        Step::BrIf(label) => Instr::BrIf(label),
-        Step::BrTable(labels, default) => {
+        FlatInstr::Op(opcode) => Instr::Plain(opcode),
+        FlatInstr::Br(label) => Instr::Br(label),
+        FlatInstr::BrIf(label) => Instr::BrIf(label),
+        FlatInstr::BrTable(labels, default) => {
             Instr::br_table_of(alloc, Items::from_slice(alloc, labels)?, default)?
         }
-        Step::Call(func) => Instr::Call(func),
-        Step::CallIndirect(ty) => Instr::CallIndirect(ty),
-        Step::Get(local) => Instr::LocalGet(local),
-        Step::Set(local) => Instr::LocalSet(local),
-        Step::Tee(local) => Instr::LocalTee(local),
-        Step::GlobalGet(global) => Instr::GlobalGet(global),
-        Step::GlobalSet(global) => Instr::GlobalSet(global),
-        Step::Access(opcode, align) => Instr::Memory(opcode, align, 0),
-        Step::Const32 => Instr::I32Const(0),
-        Step::Const64 => Instr::I64Const(0),
+        FlatInstr::Call(func) => Instr::Call(func),
+        FlatInstr::CallIndirect(ty) => Instr::CallIndirect(ty),
+        FlatInstr::Get(local) => Instr::LocalGet(local),
+        FlatInstr::Set(local) => Instr::LocalSet(local),
+        FlatInstr::Tee(local) => Instr::LocalTee(local),
+        FlatInstr::GlobalGet(global) => Instr::GlobalGet(global),
+        FlatInstr::GlobalSet(global) => Instr::GlobalSet(global),
+        FlatInstr::Access(opcode, align) => Instr::Memory(opcode, align, 0),
+        FlatInstr::Const32 => Instr::I32Const(0),
+        FlatInstr::Const64 => Instr::I64Const(0),
         _ => Instr::Plain(opcode::NOP),
     })
 }

@@ -1,7 +1,7 @@
 //! Small modules and bodies, each with what the standard says of it. V8 says the same of each that isn't marked.
 
-use crate::validation::build::Part::{self, *};
-use crate::validation::build::Step::{self, *};
+use crate::validation::build::FlatInstr::{self, *};
+use crate::validation::build::ModuleField::{self, *};
 use wa_syntax::Init;
 use wa_syntax::ValTy::{I32, I64};
 use wa_syntax::opcode::*;
@@ -9,7 +9,7 @@ use wa_syntax::opcode::*;
 /// What is shown, the parts of a module, and for an invalid one the place of the ill-typed function, if that is why.
 pub type ModuleCase = (
     &'static str,
-    &'static [Part<'static>],
+    &'static [ModuleField<'static>],
     Result<(), Option<u32>>,
 );
 
@@ -259,7 +259,7 @@ pub const MODULES: &[ModuleCase] = &[
 ];
 
 /// What is shown, the number of the function's type, its body, and whether it is well typed.
-pub type BodyCase = (&'static str, u32, &'static [Step<'static>], bool);
+pub type BodyCase = (&'static str, u32, &'static [FlatInstr<'static>], bool);
 
 /// Bodies of a function in the module of `bodies`.
 pub const BODIES: &[BodyCase] = &[

@@ -4,12 +4,12 @@ ghost use Rattle.std.specs.Prelude.{◌<◌, ◌≤◌, ◌↔◌, length, IfErr
 ghost use Rattle.wa_text.specs.Forms.{each};
 ghost use Rattle.wa_text.specs.Instructions.{else_end, expr, instr};
 ghost use Rattle.wa_text.specs.Places.{EndsIn, ReachesIn};
-ghost use Rattle.wa_text.specs.Reading.{RefusesAt, Spelled, anything, behind_first, first_line, halts, rows_at};
+ghost use Rattle.wa_text.specs.Reading.{RefusesAt, Spelled, anything, following_first, first_line, halts, rows_at};
 ghost use Rattle.wa_text.specs.Words.{line};
 
 use crate::fault::TextFault;
 use crate::reader::instruction::{BlockKind, FirstLine, first_words};
-use crate::reader::line::{Listed, behind_line, word_line, words};
+use crate::reader::line::{Listed, following_line, word_line, words};
 use sqlite_items::Items;
 use std::alloc::Global;
 use wa_syntax::{Instr, ValTy};
@@ -36,7 +36,7 @@ fn stops(text: &[u8], at: u32) -> bool
     requires place { at ≤ length text.now }
     ensures { IsTrue result ↔ halts (rows_at text.now at) }
 {
-    behind_line(text, at, b"end").is_some() || behind_line(text, at, b"else").is_some()
+    following_line(text, at, b"end").is_some() || following_line(text, at, b"else").is_some()
 }
 
 /// Instructions up to an `end` or an `else` that is none of theirs. Up to `levels` blocks may be open among them.
@@ -109,8 +109,8 @@ fn structured(
     requires size { length text.now < u32.MAX }
     requires place { at ≤ length text.now }
     ensures ends { IfOk result (λ read. EndsIn text.now at read.1) }
-    ensures found { IfOk result (λ read. Spelled (behind_first kind ty (each (instr levels)) read.0) text.now at read.1) }
-    ensures refused { IfErr result (RefusesAt (behind_first kind ty (each (instr levels))) anything text.now at) }
+    ensures found { IfOk result (λ read. Spelled (following_first kind ty (each (instr levels)) read.0) text.now at read.1) }
+    ensures refused { IfErr result (RefusesAt (following_first kind ty (each (instr levels))) anything text.now at) }
 {
     let (body, at) = sequence(alloc, text, at, levels)?;
     match kind {
@@ -138,7 +138,7 @@ fn else_end(alloc: Global, text: &[u8], at: u32, levels: u32) -> Listed<Items<In
     ensures found { IfOk result (λ read. Spelled (else_end (each (instr levels)) read.0) text.now at read.1) }
     ensures refused { IfErr result (RefusesAt (else_end (each (instr levels))) anything text.now at) }
 {
-    let Some(at) = behind_line(text, at, b"else") else {
+    let Some(at) = following_line(text, at, b"else") else {
         return Ok((Items::new(alloc), word_line(text, at, b"end")?));
     };
     let (branch, at) = sequence(alloc, text, at, levels)?;

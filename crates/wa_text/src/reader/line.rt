@@ -23,7 +23,7 @@ ghost use Rattle.wa_text.specs.Words as form;
 ghost use Rattle.wa_text.specs.declared.fault.TextFault.TheVariants.{NoMemory, Wrong};
 
 use crate::fault::{LineFault, TextFault};
-use crate::reader::words::behind;
+use crate::reader::words::following;
 use sqlite_items::Items;
 use std::alloc::{AllocError, Global};
 
@@ -45,7 +45,7 @@ fn line_at(text: &[u8], at: u32) -> Option<(&[u8], u32)>
 }
 
 /// The place behind a line, where it is this word alone.
-pub fn behind_line(text: &[u8], at: u32, word: &[u8]) -> Option<u32>
+pub fn following_line(text: &[u8], at: u32, word: &[u8]) -> Option<u32>
     requires size { length text.now < u32.MAX }
     requires place { at ≤ length text.now }
     requires word { words_of word.now ≡ word.now ∷ [] }
@@ -68,7 +68,7 @@ pub fn word_line(text: &[u8], at: u32, word: &[u8]) -> Result<u32, TextFault>
     ensures found { IfOk result (λ end. Spelled (form.line (form.word word.now)) text.now at end) }
     ensures refused { IfErr result (λ fault. (fault ≡ Wrong at) × begins_not (word.now ∷ []) (rows_at text.now at)) }
 {
-    match behind_line(text, at, word) {
+    match following_line(text, at, word) {
         Some(end) => Ok(end),
         None => Err(TextFault::Wrong(at)),
     }
@@ -142,7 +142,7 @@ fn words_item<P: LineForm>(
 ) -> Result<P::Value, LineFault>
     ensures { Reads (λ value. word first.now then P.form value) (texts words.now) result }
 {
-    P::read(alloc, behind(words, first)?)
+    P::read(alloc, following(words, first)?)
 }
 
 /// The item of a line that begins with a word.

@@ -50,8 +50,8 @@ fn not_listing(text: &[u8], at: u32) -> ListFault
     ensures line { NamesLine text.now result }
     ensures number { result ≡ NotListing (count_by (λ byte. byte == 10) (take at text.now) + 1) }
 {
-    let feeds = line_feeds(text, at as usize);
-    ListFault::NotListing(feeds as u32 + 1)
+    let newlines = line_feeds(text, at as usize);
+    ListFault::NotListing(newlines as u32 + 1)
 }
 
 /// How many line feeds stand in front of a place.

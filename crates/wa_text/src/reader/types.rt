@@ -10,7 +10,7 @@ ghost use Rattle.wa_text.specs.Words.{mut, val, word};
 
 use crate::fault::LineFault;
 use crate::reader::line::LineForm;
-use crate::reader::words::{behind, index};
+use crate::reader::words::{following, index};
 use sqlite_items::Items;
 use std::alloc::Global;
 use wa_syntax::{FuncTy, GlobalTy, Limits, ValTy};
@@ -37,12 +37,12 @@ pub fn value_types<'a>(
 {
     let mut types = Items::new(alloc);
     let mut rest = words;
-    while let [word, behind @ ..] = rest {
+    while let [word, following @ ..] = rest {
         let Some(ty) = value_type(*word) else {
             break;
         };
         types.push(ty)?;
-        rest = behind;
+        rest = following;
     }
     Ok((types, rest))
 }
@@ -71,7 +71,7 @@ impl LineForm for TypeItem {
 
     fn read(alloc: Global, words: &[&[u8]]) -> Result<FuncTy, LineFault> {
         let (params, rest) = value_types(alloc, words)?;
-        let (results, rest) = value_types(alloc, behind(rest, b"->")?)?;
+        let (results, rest) = value_types(alloc, following(rest, b"->")?)?;
         if rest.is_empty() {
             Ok(FuncTy { params, results })
         } else {

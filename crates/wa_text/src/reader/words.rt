@@ -9,10 +9,10 @@ use crate::fault::LineFault;
 use itoa::Buffer;
 use sqlite_items::Items;
 use std::alloc::Global;
-use wa_syntax::Name;
+use wa_syntax::WasmName;
 
 /// The words behind the first, which can't be another one.
-pub fn behind<'a>(words: &'a [&'a [u8]], wanted: &[u8]) -> Result<&'a [&'a [u8]], LineFault>
+pub fn following<'a>(words: &'a [&'a [u8]], wanted: &[u8]) -> Result<&'a [&'a [u8]], LineFault>
     ensures { MatchResult result (λ rest. texts words.now ≡ wanted.now ∷ texts rest.now)
         (Refuses (λ (rest : Line) line. line ≡ wanted.now ∷ rest) (texts words.now)) }
 {
@@ -91,12 +91,12 @@ pub fn bytes(alloc: Global, word: &[u8]) -> Result<Vec<u8>, LineFault>
 }
 
 /// The bytes of a name, which are UTF-8.
-pub fn name(alloc: Global, word: &[u8]) -> Result<Name, LineFault>
+pub fn name(alloc: Global, word: &[u8]) -> Result<WasmName, LineFault>
     ensures { Reads name (word.now ∷ []) result }
 {
     let bytes = bytes(alloc, word)?;
     let Ok(_text) = str::from_utf8(bytes.as_slice()) else {
         return Err(LineFault::Wrong);
     };
-    Ok(Name::from_slice(alloc, bytes.as_slice())?)
+    Ok(WasmName::from_slice(alloc, bytes.as_slice())?)
 }

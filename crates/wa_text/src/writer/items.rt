@@ -11,7 +11,7 @@ use crate::writer::types::{global_type, limits, value_type};
 use crate::writer::words::{bytes, each, end_line, first, index, name, number, word};
 use wa_syntax::{
     DataSegment, ElemSegment, Export, ExportKind, Func, GlobalDef, Import, ImportKind, Init,
-    Limits, NoMemory, Run,
+    Limits, LocalRun, NoMemory,
 };
 
 /// An import.
@@ -61,7 +61,7 @@ pub fn function(out: &mut Vec<u8>, func: &Func) -> Result<(), NoMemory>
 }
 
 /// Locals of one type in a row: the type as often.
-fn run(out: &mut Vec<u8>, run: &Run) -> Result<(), NoMemory>
+fn run(out: &mut Vec<u8>, run: &LocalRun) -> Result<(), NoMemory>
     ensures { OnOk result (AddsWords (each val (replicate run.now.count run.now.ty)) out.old.items out.new.items) }
 {
     for _written in 0..run.count {

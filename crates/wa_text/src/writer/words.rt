@@ -7,7 +7,7 @@ ghost use Rattle.wa_text.specs.Words as form;
 ghost use Rattle.wa_text.specs.Writing.{AddsLines, AddsWords, Leaves};
 
 use itoa::Buffer;
-use wa_syntax::{Name, NoMemory};
+use wa_syntax::{NoMemory, WasmName};
 
 /// The hexadecimal digits, in lower case.
 const DIGITS: [u8; 16] = *b"0123456789abcdef";
@@ -90,7 +90,7 @@ pub fn bytes(out: &mut Vec<u8>, bytes: &[u8]) -> Result<(), NoMemory>
 }
 
 /// The bytes of a name.
-pub fn name(out: &mut Vec<u8>, name: &Name) -> Result<(), NoMemory>
+pub fn name(out: &mut Vec<u8>, name: &WasmName) -> Result<(), NoMemory>
     ensures { OnOk result (AddsWords (form.name name.now) out.old.items out.new.items) }
 {
     bytes(out, name.as_slice())

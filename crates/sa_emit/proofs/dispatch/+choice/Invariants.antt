@@ -1,5 +1,5 @@
 -- The level of the choice.
 use Rattle.sa_emit.proofs.dispatch.+choice.Given as goal
 
-abbrev pub decreases-add_choice : goal.decreases-add_choice
-decreases-add_choice l = l.level
+abbrev pub decreases-emit_dispatch : goal.decreases-emit_dispatch
+decreases-emit_dispatch l = l.level

@@ -2,8 +2,8 @@
 use Rattle.std.proofs.Common.{◌+◌, ◌*◌}
 use Rattle.sa_emit.proofs.superblock.+superblock.Given as goal
 
-abbrev pub decreases-add_superblock : goal.decreases-add_superblock
-decreases-add_superblock l = 2 * l.depth + 1
+abbrev pub decreases-emit_superblock : goal.decreases-emit_superblock
+decreases-emit_superblock l = 2 * l.depth + 1
 
-abbrev pub decreases-add_side : goal.decreases-add_side
-decreases-add_side l = 2 * l.depth
+abbrev pub decreases-emit_side : goal.decreases-emit_side
+decreases-emit_side l = 2 * l.depth

@@ -1,6 +1,6 @@
 use Rattle.std.proofs.Common.{◌≡◌, ◌≤◌, List, Some, length, refl, slice_get, subst}
 use Rattle.std.specs.Prelude.{MatchOption, count_by}
-use Rattle.sa_tree.specs.declared.class.Include.{Include}
+use Rattle.sa_ast.specs.declared.class.Include.{Include}
 use Rattle.sa_include_names.specs.Includes.{IsSecond, brings_array}
 use Rattle.sa_include_names.specs.Tables.{number_in}
 use Rattle.sa_include.specs.Firsts.{do_brought_clash}
@@ -18,9 +18,9 @@ returns c =
     let arrays = subst (λ (clauses : List Include). MatchOption second (count_by test clauses ≤ 1) (IsSecond test clauses)) c.as_slice.ensures c.second_with_array-arrays.ensures in
     let at = subst (λ (clauses : List Include). slice_get clauses c.in-Some.clause ≡ Some c.in_ok-include.include.now) c.as_slice-2.ensures c.in_ok-include.ensures in
     a_clause program.classes.now class c.in_ok-conflict.conflict second
-    (do_brought_clash features.immutable features.brought.now features.written.now features.brought.now)
+    (do_brought_clash features.immutable features.inherited.now features.written.now features.inherited.now)
     (second_array program class.includes second c.requires.includes arrays)
-    (brought_conflict features c.args.conflicts.now c.args.stays.now c.requires.grouped c.requires.stays (length features.brought.now)
+    (brought_conflict features c.args.conflicts.now c.args.stays.now c.requires.grouped c.requires.stays (length features.inherited.now)
     c.in_ok-conflict.conflict refl c.in_ok-conflict.ensures)
     c.in_ok-clause.field-0 c.in-Some.clause c.at.result c.in_ok-clause.ensures c.in-Some.is
     (of_this_type class.includes c.in-Some.clause c.in_ok-include.include.now c.pos_of.result c.at.result at c.pos_of.ensures c.at.ensures)

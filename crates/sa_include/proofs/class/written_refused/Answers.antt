@@ -10,7 +10,7 @@ returns c =
     let features = c.args.features.now in
     let conflicts = c.args.conflicts.now in
     let stays = c.args.stays.now in
-    let first = length features.brought.now in
+    let first = length features.inherited.now in
     let found = subst (λ o. MatchOption o (NoConflict conflicts stays first c.len.result) (IsFirstConflict conflicts stays first c.len.result)) c.in-Some.is c.in_ok-place.ensures in
     a_written features conflicts stays c.requires.grouped c.requires.stays first c.len.result c.in-Some.place c.in_ok-pos.field-0.now c.at-2.result
     refl found c.in_ok-pos.ensures c.at-2.ensures

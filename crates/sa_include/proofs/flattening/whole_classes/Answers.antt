@@ -1,7 +1,7 @@
 use Rattle.std.proofs.Common.{arith, ◌+◌, ◌<◌, ◌++◌, List, [], ◌∷◌, get_or, length, take, subst, sym}
 use Rattle.std.proofs.lemmas.List.{take_more}
 use Rattle.std.proofs.lemmas.List.Elements.{AllZip-push}
-use Rattle.sa_tree.specs.declared.class.Class.{Class}
+use Rattle.sa_ast.specs.declared.class.Class.{Class}
 use Rattle.sa_include.specs.Flattened.{AreFlattened, IsFlattened}
 use Rattle.sa_include.proofs.flattening.whole_classes.Goals as goal
 

@@ -1,6 +1,6 @@
 use Rattle.std.proofs.Common.{◌≡◌, ◌+◌, List, take, take_all, subst, sym}
 use Rattle.std.specs.List.{All}
-use Rattle.sa_tree.specs.declared.class.Feature.{Feature}
+use Rattle.sa_ast.specs.declared.class.Feature.{Feature}
 use Rattle.sa_include.specs.Flattened.{Wins}
 use Rattle.sa_include.proofs.WrittenLemmas.{wins_copied}
 use Rattle.sa_include.proofs.whole.with_written.Goals as goal

@@ -1,6 +1,6 @@
 use Rattle.std.proofs.Common.{◌∙◌, ap, arith, flat_map, subst, take_all}
 use Rattle.sa_include_conflicts.specs.Clashes.{NoneClash}
-use Rattle.sa_include_conflicts.specs.Known.{signatures_of}
+use Rattle.sa_include_conflicts.specs.KnownSignatures.{signatures_of}
 use Rattle.sa_include_conflicts.proofs.Separate.{more_apart}
 use Rattle.sa_include_conflicts.proofs.apart.try_apart.Goals as goal
 

@@ -1,6 +1,6 @@
 use Rattle.std.proofs.Common.{◌∙◌, arith, sym}
 use Rattle.sa_graph.proofs.Firsts.{first_here}
-use Rattle.sa_tree.specs.declared.class.Include.{Include}
+use Rattle.sa_ast.specs.declared.class.Include.{Include}
 use Rattle.sa_include_names.specs.Tables.{misused_include_in}
 use Rattle.sa_include_names.proofs.header.in_includes.Goals as goal
 

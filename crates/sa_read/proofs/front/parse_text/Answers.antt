@@ -1,10 +1,10 @@
 use Rattle.std.proofs.Common.{◌≡◌, ◌∙◌, List, [], OnOk, length, slice_index_or, ap, subst, sym, arith}
-use Rattle.sa_lex.proofs.TokenLists.{within}
-use Rattle.sa_lex.specs.declared.token.Token.{Token}
-use Rattle.sa_parse_expr.specs.Level.{AreTaken}
-use Rattle.sa_parse.specs.Files.{Parses}
+use Rattle.sa_lexer.proofs.TokenLists.{within}
+use Rattle.sa_lexer.specs.declared.token.Token.{Token}
+use Rattle.sa_parser_expr.specs.Level.{AreTaken}
+use Rattle.sa_parser.specs.Files.{Parses}
 use Rattle.sa_read.specs.Front.{file_kind_of}
-use Rattle.sa_read.specs.Program.{at}
+use Rattle.sa_read.specs.SourceFiles.{at}
 use Rattle.sa_read.proofs.FileLemmas.{of_program, parsed_at, text_spelled, text_refused}
 use Rattle.sa_read.proofs.FrontLemmas.{of_text, text_at, tokens_at}
 use Rattle.sa_read.proofs.front.parse_text.Goals as goal

@@ -1,5 +1,5 @@
 use Rattle.std.proofs.Common.{rules, subst}
-use Rattle.sa_read.specs.Read.{HasFile, HasLonger}
+use Rattle.sa_read.specs.FileContents.{HasFile, HasLonger}
 use Rattle.sa_read.proofs.ReadLemmas.{front_grows, front_ends, front_passes}
 use Rattle.sa_read.proofs.read.read_pieces.Goals as goal
 

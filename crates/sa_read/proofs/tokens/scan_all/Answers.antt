@@ -1,6 +1,6 @@
 use Rattle.std.proofs.Common.{rules}
 use Rattle.sa_read.specs.Front.{IsTakenText}
-use Rattle.sa_read.specs.Program.{at}
+use Rattle.sa_read.specs.SourceFiles.{at}
 use Rattle.sa_read.proofs.FrontLemmas.{breach, up_to_next}
 use Rattle.sa_read.proofs.tokens.scan_all.Goals as goal
 

@@ -1,7 +1,7 @@
 use Rattle.std.proofs.Common.{◌+◌, ◌-◌, map, drop, take, length}
-use Rattle.sa_tree.specs.Types.{bare}
+use Rattle.sa_ast.specs.Types.{bare}
 use Rattle.sa_subtypes.proofs.Comparing.{fits-class}
-use Rattle.sa_subtypes_pairs.proofs.Compositions.{rest-of}
+use Rattle.sa_unify.proofs.Compositions.{rest-of}
 use Rattle.sa_subtypes.proofs.question.upper_fits.Goals as goal
 
 pub returns : goal.returns

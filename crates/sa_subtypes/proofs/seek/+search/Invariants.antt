@@ -1,5 +1,5 @@
 use Rattle.std.proofs.Common.{◌≡◌, drop}
-use Rattle.sa_tree.specs.Types.{all_bare, all_bare_args}
+use Rattle.sa_ast.specs.Types.{all_bare, all_bare_args}
 use Rattle.sa_subtypes.specs.Questions.{seeking, walk_all, walk_args}
 use Rattle.sa_subtypes.proofs.seek.+search.Given as goal
 

@@ -1,5 +1,5 @@
 use Rattle.std.proofs.Common.{◌≡◌, ◌≤◌, ◌-◌, None}
-use Rattle.sa_trace.specs.Handing.{sink}
+use Rattle.sa_trace.specs.Writing.{sink}
 use Rattle.sa_trace_run.specs.Stretches.{Beginning, IsUnderWay}
 use Rattle.sa_trace_run.specs.Traced.{sinks}
 use Rattle.sa_trace_run.proofs.traced_run.run_on.Given as goal

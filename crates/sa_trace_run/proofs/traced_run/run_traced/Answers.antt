@@ -1,7 +1,7 @@
 use Rattle.std.proofs.Common.{None, ◌∙◌, ℕ, [], Some, refl, subst, sym}
-use Rattle.sa_trace.specs.Handing.{sink}
-use Rattle.wa_code.specs.Codes.{row_of}
-use Rattle.sa_trace.specs.declared.sinks.Listening.TheVariants as listening
+use Rattle.sa_trace.specs.Writing.{sink}
+use Rattle.wa_flatten.specs.Codes.{layout_of}
+use Rattle.sa_trace.specs.declared.sinks.ErrStatus.TheVariants as listening
 use Rattle.wa_exec.specs.declared.halt.StartFault.TheVariants as start
 use Rattle.wa_exec.specs.Linking.{flat_of}
 use Rattle.wa_run.specs.Answers.{IsBeforeRun}
@@ -9,18 +9,18 @@ use Rattle.wa_run.specs.Runs.{HasRunModule, streams}
 use Rattle.wa_run.proofs.Runs.{starts}
 use Rattle.sa_trace_run.specs.Stretches.{Beginning}
 use Rattle.sa_trace_run.specs.Traced.{sinks}
-use Rattle.sa_trace_run.proofs.Telling.{told-grew, under-way, unrun-told}
+use Rattle.sa_trace_run.proofs.Telling.{reported-grew, under-way, unrun-reported}
 use Rattle.sa_trace_run.proofs.traced_run.run_traced.Goals as goal
 
 pub returns-in_default-clause-ran : goal.returns-in_default-clause-ran
 returns-in_default-clause-ran g c =
-    unrun-told c.args.positions.now c.args.sources.now c.args.«module».now c.args.fuel c.unrun.result.run start.NoMemory
+    unrun-reported c.args.positions.now c.args.sources.now c.args.«module».now c.args.fuel c.unrun.result.run start.NoMemory
     (g.I.Source.input c.args.input.now) (sink (g.O.Sink.output c.args.out.now) (g.O.Sink.faults c.args.out.now))
     (sink (g.E.Sink.output c.args.err.now) (g.E.Sink.faults c.args.err.now)) c.unrun.result.listening c.unrun.ensures.answer c.unrun.ensures.listening
 
 pub returns-in-Err-clause-ran : goal.returns-in-Err-clause-ran
 returns-in-Err-clause-ran g c =
-    unrun-told c.args.positions.now c.args.sources.now c.args.«module».now c.args.fuel c.unrun-in-Err.result.run c.in-Err.fault
+    unrun-reported c.args.positions.now c.args.sources.now c.args.«module».now c.args.fuel c.unrun-in-Err.result.run c.in-Err.fault
     (g.I.Source.input c.args.input.now) (sink (g.O.Sink.output c.args.out.now) (g.O.Sink.faults c.args.out.now))
     (sink (g.E.Sink.output c.args.err.now) (g.E.Sink.faults c.args.err.now)) c.unrun-in-Err.result.listening
     (c.unrun-in-Err.ensures.answer ∙ c.answer_of_start.ensures) c.unrun-in-Err.ensures.listening
@@ -40,7 +40,7 @@ returns-clause-ran g c =
       program = c.args.«module».now;
       valid = c.requires.valid;
       linked = c.in-Ok-new.ensures.linked;
-      row = row_of machine.linked.code;
+      row = layout_of machine.linked.code;
       flat = flat_of machine.state;
       begins = c.in-Ok-new.ensures.begins;
       input = input.input c.args.input.now;
@@ -60,7 +60,7 @@ returns-clause-ran g c =
 pub returns-clause-output : goal.returns-clause-output
 returns-clause-output g c =
     let all = returns-clause-ran g c in
-    told-grew c.args.positions.now c.args.sources.now all.0
+    reported-grew c.args.positions.now c.args.sources.now all.0
     (sinks (sink (g.O.Sink.output c.args.out.now) (g.O.Sink.faults c.args.out.now))
     (sink (g.O.Sink.output c.run_on-answer.new.out) (g.O.Sink.faults c.run_on-answer.new.out))
     (sink (g.E.Sink.output c.args.err.now) (g.E.Sink.faults c.args.err.now))

@@ -5,7 +5,7 @@ use Rattle.wa_syntax.specs.BinaryInstructions.{instr}
 use Rattle.wa_syntax.specs.Formats.{each}
 use Rattle.wa_decode.proofs.Arms.{arm-ok, arm-err, arms-unread}
 use Rattle.wa_decode.proofs.Blocks.{opcode-any, instr-first, stopped-ok, stopped-err, stopped-none, end-stops_first, else_end-stops_first, arm-Block, arm-Loop, arm-If, if_opcode, level-ok, level-err, level-none, instr-stops, returned-up_to, end-ok, end-err, structured-err, else_end-first, arm-else, arm-no_else, mark-end, not_true}
-use Rattle.wa_decode.proofs.Layers.{behind-ok, behind-err, none-reads}
+use Rattle.wa_decode.proofs.Layers.{following-ok, following-err, none-reads}
 use Rattle.wa_decode.proofs.OneInstruction.{the_end, else_end}
 use Rattle.wa_decode.proofs.Reading.{pair, pair-ok, pair-err, pair-none, returned}
 use Rattle.wa_decode.proofs.Sequences.{begun-more, begun-err, begun-done}
@@ -62,14 +62,14 @@ structured-returns-in_err-expect-in-2-clause-reads t c =
     let Body = each (instr (c.args.levels - 1)) in
     returned _ c.from_residual-in_err-expect-in-2.ensures.1
     (level-err c.args.levels (omega arith)
-    (behind-err 2 (λ u. Instr-F.Block u.0 u.1.0) (arm-Block Body) c.in-2.is
+    (following-err 2 (λ u. Instr-F.Block u.0 u.1.0) (arm-Block Body) c.in-2.is
     (pair-err c.in_ok-ty.ensures.reads (stopped-err end-stops_first c.in_ok-body.ensures.reads (end-err c.in_err-expect-in-2.ensures.reads)))))
 
 pub structured-returns-in_ok-expect-in-2-clause-reads : goal.structured-returns-in_ok-expect-in-2-clause-reads
 structured-returns-in_ok-expect-in-2-clause-reads t c =
     let Body = each (instr (c.args.levels - 1)) in
     level-ok c.args.levels (Instr-F.Block c.in_ok-ty.ty c.in_ok-body.body) _ (omega arith) (i.rolls-Block c.in_ok-ty.ty c.in_ok-body.body ∙ sym c.in_ok-block_of-in-2.ensures)
-    (behind-ok 2 (λ u. Instr-F.Block u.0 u.1.0) (arm-Block Body) c.in-2.is
+    (following-ok 2 (λ u. Instr-F.Block u.0 u.1.0) (arm-Block Body) c.in-2.is
     (pair-ok c.in_ok-ty.ensures.reads (stopped-ok end-stops_first c.in_ok-body.ensures.reads (end-ok c.in_ok-expect-in-2.ensures.reads))))
 
 pub structured-returns-in_err-expect-in-3-clause-reads : goal.structured-returns-in_err-expect-in-3-clause-reads
@@ -77,14 +77,14 @@ structured-returns-in_err-expect-in-3-clause-reads t c =
     let Body = each (instr (c.args.levels - 1)) in
     returned _ c.from_residual-in_err-expect-in-3.ensures.1
     (level-err c.args.levels (omega arith)
-    (behind-err 3 (λ u. Instr-F.Loop u.0 u.1.0) (arm-Loop Body) c.in-3.is
+    (following-err 3 (λ u. Instr-F.Loop u.0 u.1.0) (arm-Loop Body) c.in-3.is
     (pair-err c.in_ok-ty.ensures.reads (stopped-err end-stops_first c.in_ok-body.ensures.reads (end-err c.in_err-expect-in-3.ensures.reads)))))
 
 pub structured-returns-in_ok-expect-in-3-clause-reads : goal.structured-returns-in_ok-expect-in-3-clause-reads
 structured-returns-in_ok-expect-in-3-clause-reads t c =
     let Body = each (instr (c.args.levels - 1)) in
     level-ok c.args.levels (Instr-F.Loop c.in_ok-ty.ty c.in_ok-body.body) _ (omega arith) (i.rolls-Loop c.in_ok-ty.ty c.in_ok-body.body ∙ sym c.in_ok-loop_of-in-3.ensures)
-    (behind-ok 3 (λ u. Instr-F.Loop u.0 u.1.0) (arm-Loop Body) c.in-3.is
+    (following-ok 3 (λ u. Instr-F.Loop u.0 u.1.0) (arm-Loop Body) c.in-3.is
     (pair-ok c.in_ok-ty.ensures.reads (stopped-ok end-stops_first c.in_ok-body.ensures.reads (end-ok c.in_ok-expect-in-3.ensures.reads))))
 
 pub structured-returns-in_err-otherwise-in_default-clause-reads : goal.structured-returns-in_err-otherwise-in_default-clause-reads
@@ -101,7 +101,7 @@ structured-returns-in_ok-if_of-in_default-clause-reads t c =
     let is = if_opcode c.args.opcode c.requires.opcode.0 c.requires.opcode.1 (λ e. search rules) (λ e. search rules) in
     level-ok c.args.levels (Instr-F.If c.in_ok-ty.ty (c.in_ok-body.body, c.in_ok-otherwise-in_default.otherwise)) _ (omega arith)
     (i.rolls-If c.in_ok-ty.ty (c.in_ok-body.body, c.in_ok-otherwise-in_default.otherwise) ∙ sym c.in_ok-if_of-in_default.ensures)
-    (behind-ok 4 (λ u. Instr-F.If u.0 u.1) (arm-If Body) is
+    (following-ok 4 (λ u. Instr-F.If u.0 u.1) (arm-If Body) is
     (pair-ok c.in_ok-ty.ensures.reads (stopped-ok (else_end-stops_first Body) c.in_ok-body.ensures.reads c.in_ok-otherwise-in_default.ensures.reads)))
 
 pub alternative-returns-in_err-mark-clause-reads : goal.alternative-returns-in_err-mark-clause-reads

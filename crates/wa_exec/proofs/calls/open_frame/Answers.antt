@@ -1,5 +1,5 @@
 use Rattle.std.proofs.Common.{◌≡◌, ◌+◌, ◌-◌, ◌∷◌, ◌++◌, max, replicate, slice_range, ℕ, OnOk, rules}
-use Rattle.wa_region.specs.Frames.{top}
+use Rattle.wa_stack.specs.Frames.{top}
 use Rattle.wa_exec.proofs.Frames.{arguments_are}
 use Rattle.wa_exec.proofs.calls.open_frame.Goals as goal
 

@@ -3,7 +3,7 @@ use Rattle.std.specs.Prelude.{◌%◌, ◌^◌}
 use Rattle.wa_exec.specs.declared.halt.Halt.TheVariants as halt
 use Rattle.wa_exec.specs.declared.link.HostCall.{HostCall}
 use Rattle.wa_exec.specs.HostCalls.{HasCalled}
-use Rattle.wa_exec.specs.Outside.{sides}
+use Rattle.wa_exec.specs.Interaction.{sides}
 use Rattle.wa_exec.proofs.environment.call_host.Goals as goal
 
 pub returns-in-Put-clause-does : goal.returns-in-Put-clause-does

@@ -1,6 +1,6 @@
 use Rattle.std.proofs.Common.{None, refl}
 use Rattle.wa_run.specs.Runs.{streams}
-use Rattle.wa_run.proofs.Runs.{before-run, nothing-passed, spelled-told}
+use Rattle.wa_run.proofs.Runs.{before-run, nothing-passed, spelled-reported}
 use Rattle.wa_run.proofs.Spelled.{run-spelled}
 use Rattle.wa_run.proofs.module_run.run_bytes.Goals as goal
 
@@ -14,7 +14,7 @@ pub returns-in-Ok-clause-whole : goal.returns-in-Ok-clause-whole
 returns-in-Ok-clause-whole g c =
     let here = streams (g.I.Source.input c.args.input.now) (g.O.Sink.output c.args.out.now) in
     let there = streams (g.I.Source.input c.run_module.new.input) (g.O.Sink.output c.run_module.new.out) in
-    spelled-told c.args.bytes.now c.args.fuel c.run_module.result here there (returns-in-Ok-clause-ran g c)
+    spelled-reported c.args.bytes.now c.args.fuel c.run_module.result here there (returns-in-Ok-clause-ran g c)
 
 pub returns-in-Err-clause-ran : goal.returns-in-Err-clause-ran
 returns-in-Err-clause-ran g c =
@@ -24,4 +24,4 @@ returns-in-Err-clause-ran g c =
 pub returns-in-Err-clause-whole : goal.returns-in-Err-clause-whole
 returns-in-Err-clause-whole g c =
     let here = streams (g.I.Source.input c.args.input.now) (g.O.Sink.output c.args.out.now) in
-    spelled-told c.args.bytes.now c.args.fuel (record { answer = c.in-Err.answer; steps = 0; func = None }) here here (returns-in-Err-clause-ran g c)
+    spelled-reported c.args.bytes.now c.args.fuel (record { answer = c.in-Err.answer; steps = 0; func = None }) here here (returns-in-Err-clause-ran g c)

@@ -1,5 +1,5 @@
 use Rattle.std.proofs.Common.{◌≡◌, drop}
-use Rattle.sa_tree.specs.Types.{all_bare, all_bare_args}
+use Rattle.sa_ast.specs.Types.{all_bare, all_bare_args}
 use Rattle.sa_subtypes.specs.Questions.{comparing, value_in, walk_all, walk_args}
 use Rattle.sa_subtypes.proofs.question.Question.+fit.Given as goal
 

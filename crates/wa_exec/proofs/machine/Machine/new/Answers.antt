@@ -2,8 +2,8 @@ use Rattle.std.proofs.Common.{◌≡◌, Err, Some, length, subst, rules}
 use Rattle.wa_syntax.specs.declared.module.Module.{Module}
 use Rattle.wa_syntax.specs.Runs.{main_of}
 use Rattle.wa_syntax.specs.ValidModule.{IsValid}
-use Rattle.wa_code.specs.Codes.{row_of}
-use Rattle.wa_exec.proofs.Begins.{beginning-stands, beginning-state, linked-to}
+use Rattle.wa_flatten.specs.Codes.{layout_of}
+use Rattle.wa_exec.proofs.Begins.{beginning-occurs, beginning-state, linked-to}
 use Rattle.wa_exec.proofs.Linking.{unlinked-unstartable}
 use Rattle.wa_exec.proofs.machine.Machine.new.Goals as goal
 
@@ -28,4 +28,4 @@ pub returns-clause-begins : goal.returns-clause-begins
 returns-clause-begins c =
     let m = c.args.v.now in
     let main_is : main_of m.exports ≡ Some c.in_ok-main.main = subst (λ (x : Module). main_of x.exports ≡ Some c.in_ok-main.main) c.module-module.ensures.same c.in_ok-main.ensures.main in
-    beginning-stands m (row_of c.in_ok-linked.linked.code) c.in_ok-main.main c.in_ok-state.state main_is c.in_ok-state.ensures.begins
+    beginning-occurs m (layout_of c.in_ok-linked.linked.code) c.in_ok-main.main c.in_ok-state.state main_is c.in_ok-state.ensures.begins

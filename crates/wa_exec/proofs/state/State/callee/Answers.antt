@@ -1,7 +1,7 @@
 use Rattle.std.proofs.Common.{◌≡◌, ℕ, ◌%◌, Bool, refl, sym, ap, ◌∙◌}
 use Rattle.std.specs.Prelude.{Some, None, Result, Ok, Err, if◌then◌else◌, slice_get}
 use Rattle.wa_syntax.specs.declared.trap.TrapKind.{TrapKind}
-use Rattle.wa_exec.specs.declared.calls.Calls.{Calls}
+use Rattle.wa_exec.specs.declared.calls.CallStack.{CallStack}
 use Rattle.wa_exec.specs.States.{callee_of}
 use Rattle.wa_exec.proofs.state.State.callee.Goals as goal
 
@@ -12,9 +12,9 @@ returns-in-None-clause-looks_up c = λ place stack below on.
     record {
       result_is = ap (callee_of c.args.linked.now c.args.ty) there;
       rest = refl;
-      callers = ap (λ (k : Calls). k.callers) c.take.ensures.rest;
-      at = ap (λ (k : Calls). k.at) c.take.ensures.rest;
-      region = ap (λ (k : Calls). k.region) c.take.ensures.rest;
+      callers = ap (λ (k : CallStack). k.callers) c.take.ensures.rest;
+      at = ap (λ (k : CallStack). k.at) c.take.ensures.rest;
+      region = ap (λ (k : CallStack). k.region) c.take.ensures.rest;
       height = taken.1;
     }
 
@@ -25,9 +25,9 @@ returns-in-Some-None-clause-looks_up c = λ place stack below on.
     record {
       result_is = ap (callee_of c.args.linked.now c.args.ty) there;
       rest = refl;
-      callers = ap (λ (k : Calls). k.callers) c.take.ensures.rest;
-      at = ap (λ (k : Calls). k.at) c.take.ensures.rest;
-      region = ap (λ (k : Calls). k.region) c.take.ensures.rest;
+      callers = ap (λ (k : CallStack). k.callers) c.take.ensures.rest;
+      at = ap (λ (k : CallStack). k.at) c.take.ensures.rest;
+      region = ap (λ (k : CallStack). k.region) c.take.ensures.rest;
       height = taken.1;
     }
 
@@ -42,9 +42,9 @@ returns-then-is_of_type-clause-looks_up c = λ place stack below on.
     record {
       result_is = ap (λ (b : Bool). called b c.in-Some-Some.func) (sym c.if-is_of_type.true ∙ c.is_of_type.ensures) ∙ ap (callee_of c.args.linked.now c.args.ty) there;
       rest = refl;
-      callers = ap (λ (k : Calls). k.callers) c.take.ensures.rest;
-      at = ap (λ (k : Calls). k.at) c.take.ensures.rest;
-      region = ap (λ (k : Calls). k.region) c.take.ensures.rest;
+      callers = ap (λ (k : CallStack). k.callers) c.take.ensures.rest;
+      at = ap (λ (k : CallStack). k.at) c.take.ensures.rest;
+      region = ap (λ (k : CallStack). k.region) c.take.ensures.rest;
       height = taken.1;
     }
 
@@ -55,8 +55,8 @@ returns-else-is_of_type-clause-looks_up c = λ place stack below on.
     record {
       result_is = ap (λ (b : Bool). called b c.in-Some-Some.func) (sym c.if-is_of_type.false ∙ c.is_of_type.ensures) ∙ ap (callee_of c.args.linked.now c.args.ty) there;
       rest = refl;
-      callers = ap (λ (k : Calls). k.callers) c.take.ensures.rest;
-      at = ap (λ (k : Calls). k.at) c.take.ensures.rest;
-      region = ap (λ (k : Calls). k.region) c.take.ensures.rest;
+      callers = ap (λ (k : CallStack). k.callers) c.take.ensures.rest;
+      at = ap (λ (k : CallStack). k.at) c.take.ensures.rest;
+      region = ap (λ (k : CallStack). k.region) c.take.ensures.rest;
       height = taken.1;
     }

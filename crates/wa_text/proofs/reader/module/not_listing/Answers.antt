@@ -6,6 +6,6 @@ use Rattle.wa_text.proofs.reader.module.not_listing.Goals as goal
 
 pub returns-clause-line : goal.returns-clause-line
 returns-clause-line c =
-    let feeds : ℕ → Bool = λ byte. byte == 10 in
-    let few : count_by feeds (take c.args.at c.args.text.now) ≤ count_by feeds c.args.text.now = sum_by-take-le (λ byte. cond (byte == 10) 1 0) c.args.text.now c.args.at in
-    (omega arith, omega (arith, c.line_feeds-feeds.ensures.count, few))
+    let newlines : ℕ → Bool = λ byte. byte == 10 in
+    let few : count_by newlines (take c.args.at c.args.text.now) ≤ count_by newlines c.args.text.now = sum_by-take-le (λ byte. cond (byte == 10) 1 0) c.args.text.now c.args.at in
+    (omega arith, omega (arith, c.line_feeds-newlines.ensures.count, few))

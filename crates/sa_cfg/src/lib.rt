@@ -1,0 +1,13 @@
+//! The flat program as types: bodies of numbered blocks, whose steps work on numbered variables and whose exits name the next
+//! block. It stands between the typed tree, which nests, and a module's functions, which suspend and are resumed.
+#![tactic(auto)]
+
+mod body;
+mod call;
+mod operation;
+mod program;
+
+pub use body::{BasicBlock, BodyParam, CfgBody, FIRST_TEMPORARY, UNWIND_BLOCK};
+pub use call::{CallOperand, CallOperation, CallTarget, FaultExit, Handler};
+pub use operation::{CfgOperation, Constant, Terminator};
+pub use program::{BoundLayout, CfgProgram, TypeLayout};

@@ -1,0 +1,15 @@
+pub mod Calls
+pub mod Terminators
+pub mod Faults
+pub mod Frames
+pub mod InRange
+pub mod Instances
+pub mod Law
+pub mod MoreSamples
+pub mod Counting
+pub mod BlockParts
+pub mod Run
+pub mod Samples
+pub mod Operations
+pub mod Targets
+pub mod WellFormed

@@ -1,6 +1,0 @@
-use Rattle.std.proofs.Common.{◌≡◌, ◌++◌, take}
-use Rattle.sa_contract.specs.Asserted.{asserts_of}
-use Rattle.sa_contract.proofs.asserts.add_asserts.Given as goal
-
-abbrev pub invariant-loop-condition : goal.invariant-loop-condition
-invariant-loop-condition l = l.list ≡ l.initial.list ++ asserts_of (take l.condition-index l.conditions)

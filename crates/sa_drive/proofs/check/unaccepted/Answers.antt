@@ -1,5 +1,0 @@
-use Rattle.sa_drive.proofs.FurtherLemmas.{tells_none}
-use Rattle.sa_drive.proofs.check.unaccepted.Goals as goal
-
-pub returns-in_default-clause-each : goal.returns-in_default-clause-each
-returns-in_default-clause-each c = rw c.in-All.is (tells_none c.args.cause c.args.further.items c.without_module-in_default.result c.in_default.not-Refused)

@@ -1,0 +1,13 @@
+pub mod Accepted
+pub mod Answer
+pub mod Built
+pub mod Ends
+pub mod Files
+pub mod Further
+pub mod Lines
+pub mod Listings
+pub mod Report
+pub mod Runs
+pub mod HostParts
+pub mod Sites
+pub mod Status

@@ -1,9 +1,0 @@
-use Rattle.std.proofs.Common.{take}
-use Rattle.std.specs.List.{All}
-use Rattle.sa_types.specs.Table.{put_in}
-use Rattle.sa_include.specs.Included.{IsBrought}
-use Rattle.sa_include.proofs.brought.try_features.Given as goal
-
-abbrev pub invariant-loop-feature : goal.invariant-loop-feature
-invariant-loop-feature l =
-    All (IsBrought l.bringing.changes.now (put_in l.bringing.by) l.bringing.immutable l.known.shapes.keys) (take l.feature-index l.features)

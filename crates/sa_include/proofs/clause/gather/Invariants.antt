@@ -1,5 +1,0 @@
-use Rattle.sa_include.proofs.Refusing.{IsGatheredUpTo}
-use Rattle.sa_include.proofs.clause.gather.Given as goal
-
-abbrev pub invariant-loop-place : goal.invariant-loop-place
-invariant-loop-place l = IsGatheredUpTo l.class.includes l.place l.brought.features.items l.refusal

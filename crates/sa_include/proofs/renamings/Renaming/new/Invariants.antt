@@ -1,0 +1,5 @@
+use Rattle.sa_include.proofs.Renamings.{HasChangesUpTo}
+use Rattle.sa_include.proofs.renamings.Renaming.new.Given as goal
+
+abbrev pub invariant-loop-place : goal.invariant-loop-place
+invariant-loop-place l = HasChangesUpTo l.changes l.place l.renaming

@@ -1,7 +1,0 @@
-use Rattle.std.proofs.Common.{◌≡◌, map, take}
-use Rattle.sa_types.specs.Table.{put_in}
-use Rattle.sa_include_conflicts.specs.Brought.{brought_argument}
-use Rattle.sa_include_conflicts.proofs.brought.brought_arguments.Given as goal
-
-abbrev pub invariant-loop-arg : goal.invariant-loop-arg
-invariant-loop-arg l = l.copies ≡ map (brought_argument (put_in l.by)) (take l.arg-index l.args)

@@ -1,0 +1,13 @@
+pub mod Bytes
+pub mod ScannedToken
+pub mod Front
+pub mod Gap
+pub mod Literal
+pub mod Name
+pub mod Number
+pub mod Sign
+pub mod Signs
+pub mod Token
+pub mod TokenRules
+pub mod Tokens
+pub mod Words

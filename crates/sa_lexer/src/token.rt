@@ -1,0 +1,47 @@
+//! What a token is, and the bytes that it spans.
+
+ghost use Rattle.std.specs.Prelude.{◌≡◌, slice_range};
+ghost use Rattle.sa_lexer.specs.Token.{IsWithin};
+
+use crate::sign::Sign;
+use crate::word::Word;
+use sa_ast::Name;
+
+/// What a token is.
+#[derive(Debug, Drop)]
+pub enum TokenKind {
+    /// A word.
+    Word(Word),
+    /// A name without a lower-case letter that is no word.
+    ClassName,
+    /// `$` and a class name.
+    AbstractName,
+    /// A name with a lower-case letter that is no word.
+    Lower,
+    /// A name with a lower-case letter, and `!`.
+    IterName,
+    /// A number, by its value: at most 2147483647.
+    Int(u32),
+    /// A character literal, by the byte that it stands for.
+    Char(u8),
+    /// A text literal, by the bytes that it stands for.
+    Text(Name),
+    /// A sign.
+    Sign(Sign),
+}
+
+/// A token of a text, which spans the bytes from `start` up to `end`.
+#[derive(Debug, Drop)]
+pub struct Token {
+    pub kind: TokenKind,
+    pub start: u32,
+    pub end: u32,
+}
+
+/// The bytes of the text that the token spans.
+pub fn slice_of<'a>(src: &'a [u8], token: &Token) -> &'a [u8]
+    requires { IsWithin src.now token.now }
+    ensures { result.now ≡ slice_range src.now token.now.start token.now.end }
+{
+    &src[token.start as usize..token.end as usize]
+}

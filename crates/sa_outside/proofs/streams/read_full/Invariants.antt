@@ -1,9 +1,0 @@
-use Rattle.std.proofs.Common.{◌-◌, ◌≤◌, length}
-use Rattle.sa_outside.proofs.streams.read_full.Given as goal
-
--- the front that is filled is within the buffer
-abbrev pub invariant-loop-filled : goal.invariant-loop-filled
-invariant-loop-filled g l = l.filled ≤ length l.buffer
-
-abbrev pub decreases-loop-filled : goal.decreases-loop-filled
-decreases-loop-filled g l = length l.buffer - l.filled

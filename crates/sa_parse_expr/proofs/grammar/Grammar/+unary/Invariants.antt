@@ -1,5 +1,0 @@
-use Rattle.std.proofs.Common.{length, ◌-◌}
-use Rattle.sa_parse_expr.proofs.grammar.Grammar.+unary.Given as goal
-
-abbrev pub decreases-unary : goal.decreases-unary
-decreases-unary g l = length l.self.now.tokens.list.now - l.from

@@ -1,0 +1,17 @@
+pub mod BlockForms
+pub mod Bodies
+pub mod ClassForms
+pub mod Classes
+pub mod ConditionForms
+pub mod Conditions
+pub mod FeatureForms
+pub mod Features
+pub mod Files
+pub mod MappedReads
+pub mod Names
+pub mod Refusals
+pub mod SignatureForms
+pub mod Signatures
+pub mod Starts
+pub mod Statements
+pub mod AstReads

@@ -1,0 +1,16 @@
+pub mod Enclosures
+pub mod Exactly
+pub mod ExpressionForms
+pub mod Expressions
+pub mod Forms
+pub mod Grammar
+pub mod Level
+pub mod Lexemes
+pub mod Nests
+pub mod Positions
+pub mod Readings
+pub mod Starts
+pub mod StatementForms
+pub mod Tests
+pub mod TypeForms
+pub mod Types

@@ -1,5 +1,0 @@
-use Rattle.sa_shape.proofs.Places.{PlacesSoFar}
-use Rattle.sa_shape.proofs.numbering.are_places.Given as goal
-
-abbrev pub invariant-loop-block : goal.invariant-loop-block
-invariant-loop-block l = PlacesSoFar l.entries l.numbers l.block

@@ -1,6 +1,0 @@
-use Rattle.std.proofs.Common.{◌≡◌, drop}
-use Rattle.sa_shape.specs.Stands.{is_in}
-use Rattle.sa_shape.proofs.trial.is_in.Given as goal
-
-abbrev pub invariant-loop-other : goal.invariant-loop-other
-invariant-loop-other l = is_in l.list l.block ≡ is_in (drop l.other-index l.list) l.block

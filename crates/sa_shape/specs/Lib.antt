@@ -1,4 +1,0 @@
-pub mod Numbering
-pub mod Right
-pub mod Shapes
-pub mod Stands

@@ -1,7 +1,0 @@
-use Rattle.std.proofs.Common.{◌≡◌, drop}
-use Rattle.std.specs.Cmp.Lexicographic.{pointwise}
-use Rattle.sa_signatures.specs.Conformance.{arg_conforms}
-use Rattle.sa_signatures.proofs.conformance.args_conform.Given as goal
-
-abbrev pub invariant-loop-i : goal.invariant-loop-i
-invariant-loop-i l = pointwise (arg_conforms l.edges) l.f l.g ≡ pointwise (arg_conforms l.edges) (drop l.i l.f) (drop l.i l.g)

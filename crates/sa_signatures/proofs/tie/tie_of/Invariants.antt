@@ -1,7 +1,0 @@
-use Rattle.std.proofs.Common.{ℕ, ◌<◌}
-use Rattle.sa_signatures.specs.Candidates.{call_in}
-use Rattle.sa_signatures.specs.Choice.{Tied}
-use Rattle.sa_signatures.proofs.tie.tie_of.Given as goal
-
-abbrev pub invariant-loop-j : goal.invariant-loop-j
-invariant-loop-j l = (j : ℕ) → j < l.j → ¬ Tied (call_in l.call) l.i j

@@ -1,6 +1,0 @@
--- The call that is held together with its candidates.
-use Rattle.sa_signatures.specs.declared.candidates.Candidates.{Candidates}
-use Rattle.sa_signatures.specs.Choice.{Call, call_of}
-
-abbrev pub call_in : Candidates → Call
-call_in held = call_of held.cands.now held.args.now held.expects_result held.edges.now

@@ -1,6 +1,0 @@
-pub mod Conformance
-pub mod Conflict
-pub mod Fit
-pub mod Specificity
-pub mod Candidates
-pub mod Choice

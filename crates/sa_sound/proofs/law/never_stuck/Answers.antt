@@ -1,5 +1,0 @@
-use Rattle.sa_sound.proofs.Runs.{never_stuck}
-use Rattle.sa_sound.proofs.law.never_stuck.Goals as goal
-
-pub returns : goal.returns
-returns c = never_stuck c.args.core.now

@@ -1,0 +1,4 @@
+pub mod Numbering
+pub mod Right
+pub mod Regions
+pub mod Stands

@@ -1,7 +1,0 @@
-use Rattle.sa_subtypes_lineage.specs.Lineages.{tables}
-use Rattle.sa_subtypes_lineage.proofs.Trials.{covered-passed}
-use Rattle.sa_subtypes_lineage.proofs.lineage.Lineage.try_covered.Goals as goal
-
-pub returns-then-begins_bare : goal.returns-then-begins_bare
-returns-then-begins_bare c =
-    covered-passed (tables c.args.self.now) c.args.edge c.args.place c.as_slice.result.now c.in_ok-entry.entry c.nodes-first.result.now c.nodes-second.result.now c.as_slice.ensures.value c.in_ok-entry.ensures c.nodes-first.ensures c.nodes-second.ensures (c.is_bare.ensures c.if-is_bare.true) (c.begins_bare.ensures c.if-begins_bare.true) c.in_ok-try_passed.ensures

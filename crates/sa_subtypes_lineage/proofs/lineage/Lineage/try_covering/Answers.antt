@@ -1,7 +1,0 @@
-use Rattle.sa_subtypes_lineage.specs.Lineages.{tables}
-use Rattle.sa_subtypes_lineage.proofs.Trials.{covering-goes}
-use Rattle.sa_subtypes_lineage.proofs.lineage.Lineage.try_covering.Goals as goal
-
-pub returns : goal.returns
-returns c =
-    covering-goes (tables c.args.self.now) c.args.edge c.args.above c.as_slice.result.now c.in_ok-link.link c.as_slice.ensures.value c.in_ok-link.ensures c.as_slice-2.result.now c.in_ok-range.range c.as_slice-2.ensures.value c.in_ok-range.ensures c.in_ok-try_covers.ensures

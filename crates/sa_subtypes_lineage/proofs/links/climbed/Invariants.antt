@@ -1,9 +1,0 @@
-use Rattle.sa_subtypes_lineage.specs.Lineages.{depth_at}
-use Rattle.sa_subtypes_lineage.proofs.Climbs.{IsOnWay}
-use Rattle.sa_subtypes_lineage.proofs.links.climbed.Given as goal
-
-abbrev pub invariant-loop-at : goal.invariant-loop-at
-invariant-loop-at l = ∥ IsOnWay l.links l.lower l.depth l.at ∥₁
-
-abbrev pub decreases-loop-at : goal.decreases-loop-at
-decreases-loop-at l = depth_at l.links l.at

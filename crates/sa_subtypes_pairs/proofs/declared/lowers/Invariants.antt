@@ -1,5 +1,0 @@
-use Rattle.std.proofs.Common.{◌≡◌, map, take}
-use Rattle.sa_subtypes_pairs.proofs.declared.lowers.Given as goal
-
-abbrev pub invariant-loop-edge : goal.invariant-loop-edge
-invariant-loop-edge l = l.lowers.items ≡ map (λ e. e.lower) (take l.edge-index l.edges)

@@ -1,6 +1,0 @@
-use Rattle.std.proofs.Common.{◌≡◌, ◌++◌}
-use Rattle.sa_subtypes_pairs.specs.Spelled.{variables}
-use Rattle.sa_subtypes_pairs.proofs.header.Header.spell_params.Given as goal
-
-abbrev pub invariant-loop-number : goal.invariant-loop-number
-invariant-loop-number l = l.out.items ≡ l.initial.out.items ++ variables l.number

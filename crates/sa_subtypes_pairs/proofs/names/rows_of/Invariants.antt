@@ -1,6 +1,0 @@
-use Rattle.std.proofs.Common.{◌≡◌, map, take}
-use Rattle.sa_subtypes_pairs.specs.Numbers.{row_of}
-use Rattle.sa_subtypes_pairs.proofs.names.rows_of.Given as goal
-
-abbrev pub invariant-loop-class : goal.invariant-loop-class
-invariant-loop-class l = l.rows.items ≡ map row_of (take l.class-index l.classes)

@@ -1,6 +1,0 @@
-use Rattle.std.proofs.Common.{◌≡◌, take}
-use Rattle.sa_subtypes_pairs.specs.Terms.{named, substitute}
-use Rattle.sa_subtypes_pairs.proofs.pair.renamed.Given as goal
-
-abbrev pub invariant-loop-node : goal.invariant-loop-node
-invariant-loop-node l = l.out.items ≡ substitute (named l.numbers) (take l.node-index l.nodes)

@@ -1,5 +1,0 @@
-use Rattle.sa_subtypes_pairs.proofs.Rounds.{IsRound}
-use Rattle.sa_subtypes_pairs.proofs.unification.unify.Given as goal
-
-abbrev pub invariant-rounds : goal.invariant-rounds
-invariant-rounds l = IsRound l.fn.kept.items l.fn.one.items l.fn.other.items l.kept.items l.one.items l.other.items

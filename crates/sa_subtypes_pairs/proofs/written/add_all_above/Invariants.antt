@@ -1,6 +1,0 @@
-use Rattle.std.proofs.Common.{◌≡◌, ◌++◌, flat_map, take}
-use Rattle.sa_subtypes_pairs.specs.Edges.{above_edge, seen}
-use Rattle.sa_subtypes_pairs.proofs.written.add_all_above.Given as goal
-
-abbrev pub invariant-loop-ty : goal.invariant-loop-ty
-invariant-loop-ty l = seen l.out.items ≡ seen l.initial.out.items ++ flat_map (above_edge l.header) (take l.ty-index l.types)

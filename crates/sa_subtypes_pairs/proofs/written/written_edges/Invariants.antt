@@ -1,7 +1,0 @@
-use Rattle.std.proofs.Common.{◌≡◌}
-use Rattle.sa_subtypes_pairs.specs.Edges.{edges_upto, seen}
-use Rattle.sa_subtypes_pairs.specs.Numbers.{number_in}
-use Rattle.sa_subtypes_pairs.proofs.written.written_edges.Given as goal
-
-abbrev pub invariant-loop-place : goal.invariant-loop-place
-invariant-loop-place l = seen l.edges.items ≡ edges_upto (number_in l.names.places) l.classes l.place

@@ -1,0 +1,66 @@
+//! Frames: what a traced module puts.
+
+ghost use Rattle.std.specs.Prelude.{◌≡◌, ◌≢◌, MatchOption};
+ghost use Rattle.sa_trace.specs.TraceRecords.{kind_number};
+ghost use Rattle.sa_trace.specs.Writing.{word};
+ghost use Rattle.sa_trace.specs.declared.trace_record.EventKind.{EventKind as Kinds};
+
+use sa_ast::Pos;
+
+/// What becomes of an instance of an iter.
+#[derive(Clone, Copy, Debug, PartialEq, Eq, Hash)]
+pub enum EventKind {
+    Start,
+    Resume,
+    Yield,
+    Quit,
+    /// It is ended with its loop, or by a raise.
+    Abandon,
+}
+
+/// Something that becomes of an instance of an iter.
+#[derive(Clone, Copy, Debug, PartialEq, Eq, Hash)]
+pub struct Event {
+    pub kind: EventKind,
+    /// Where the call stands that started the instance.
+    pub at: Pos,
+    /// The number of the instance, from 0 in the order of the starts.
+    pub instance: u64,
+}
+
+/// A frame.
+#[derive(Clone, Copy, Debug, PartialEq, Eq, Hash)]
+pub enum TraceRecord {
+    /// A byte of the output.
+    Byte(u8),
+    Event(Event),
+}
+
+impl EventKind {
+    /// The kind that a frame tells by this number, if there is one.
+    pub(crate) fn of_number(number: u8) -> Option<EventKind>
+        ensures { MatchOption result ((kind : Kinds) → kind_number kind ≢ number) (λ kind. kind_number kind ≡ number) }
+    {
+        match number {
+            0 => Some(EventKind::Start),
+            1 => Some(EventKind::Resume),
+            2 => Some(EventKind::Yield),
+            3 => Some(EventKind::Quit),
+            4 => Some(EventKind::Abandon),
+            _ => None,
+        }
+    }
+
+    /// The word of its lines.
+    pub(crate) fn word(self) -> &'static str
+        ensures { result.now ≡ word self }
+    {
+        match self {
+            EventKind::Start => "start",
+            EventKind::Resume => "resume",
+            EventKind::Yield => "yield",
+            EventKind::Quit => "quit",
+            EventKind::Abandon => "abandon",
+        }
+    }
+}

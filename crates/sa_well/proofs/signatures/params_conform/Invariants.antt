@@ -1,7 +1,0 @@
-use Rattle.std.proofs.Common.{◌≡◌, drop}
-use Rattle.sa_well.specs.Rows.{rows}
-use Rattle.sa_well.specs.Signatures.{params_conform}
-use Rattle.sa_well.proofs.signatures.params_conform.Given as goal
-
-abbrev pub invariant-loop-place : goal.invariant-loop-place
-invariant-loop-place l = params_conform (rows l.view) l.found 0 l.params ≡ params_conform (rows l.view) l.found l.place (drop l.place l.params)

@@ -1,5 +1,0 @@
-pub mod Codes
-pub mod Contents
-pub mod Drafts
-pub mod Laid
-pub mod Places

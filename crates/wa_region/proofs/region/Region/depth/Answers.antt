@@ -1,7 +1,0 @@
-use Rattle.std.proofs.Common.{◌∙◌, ap, length}
-use Rattle.wa_region.proofs.TopFrame.{depth-frames}
-use Rattle.wa_region.proofs.region.Region.depth.Goals as goal
-
-pub returns : goal.returns
-returns c =
-    ap length c.as_slice.ensures.value ∙ depth-frames c.self.inside.base c.self.inside.bases.items c.self.inside.words.items _ c.self.view_is

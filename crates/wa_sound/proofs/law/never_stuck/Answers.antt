@@ -1,5 +1,0 @@
-use Rattle.wa_sound.proofs.Runs.{never-stuck}
-use Rattle.wa_sound.proofs.law.never_stuck.Goals as goal
-
-pub returns : goal.returns
-returns c = never-stuck c.args.program.now

@@ -1,5 +1,0 @@
-use Rattle.wa_sound.proofs.Runs.{stays-typed}
-use Rattle.wa_sound.proofs.law.stays_typed.Goals as goal
-
-pub returns : goal.returns
-returns c = stays-typed c.args.program.now
