@@ -1,0 +1,12 @@
+pub mod Bounds
+pub mod Calls
+pub mod Composition
+pub mod Control
+pub mod Copy
+pub mod Determinism
+pub mod Regions
+pub mod Steady
+pub mod StraightLine
+pub mod Sum
+pub mod Whole
+pub mod Words
