@@ -1,4 +1,4 @@
-//! Prints the typed tree of a program as JSON, of the sources whose files the arguments name. Where a rule refuses the sources,
+//! Prints the typed AST of a program as JSON, of the sources whose files the arguments name. Where a rule refuses the sources,
 //! `["Refused", RULE, [FILE, BYTE]]` is printed in its place, with the text of the rule.
 #![tactic(auto)]
 
@@ -13,7 +13,7 @@ use crate::writer::Writer;
 use anyhow::{Result, anyhow};
 use host_io::FileStore;
 use sa_ast::{Refusal, Rejection};
-use sa_check::check;
+use sa_driver::check_needed;
 use sa_read::{SourceFiles, parse_program, read_program};
 use std::alloc::{AllocError, Global};
 use std::env;
@@ -34,7 +34,7 @@ fn main(rt: HostRuntime) -> Result<()> {
     Ok(())
 }
 
-/// The typed tree of a program, or the rule that refuses it.
+/// The typed AST of a program, or the rule that refuses it.
 fn tree(alloc: Global, program: &SourceFiles) -> Result<String, AllocError>
     requires short { All (λ text. length text < 4294967295) program.now.sources.texts }
     requires few { length program.now.sources.texts ≤ 65536 }
@@ -43,13 +43,13 @@ fn tree(alloc: Global, program: &SourceFiles) -> Result<String, AllocError>
     match add_tree(alloc, &mut writer, program) {
         Ok(()) => {}
         Err(Rejection::Refused(refusal)) => add_refusal(&mut writer, refusal)?,
-        Err(Rejection::NoMemory) => return Err(AllocError),
+        Err(Rejection::Failed(_)) => return Err(AllocError),
     }
     let Writer { text, .. } = writer;
     Ok(text)
 }
 
-/// Adds the typed tree of a program that no rule refuses.
+/// Adds the typed AST of a program that no rule refuses.
 fn add_tree(alloc: Global, writer: &mut Writer, program: &SourceFiles) -> Result<(), Rejection>
     requires short { All (λ text. length text < 4294967295) program.now.sources.texts }
     requires few { length program.now.sources.texts ≤ 65536 }
@@ -59,7 +59,7 @@ fn add_tree(alloc: Global, writer: &mut Writer, program: &SourceFiles) -> Result
     }
     let texts = program.sources.texts.as_slice();
     let parsed = parse_program(alloc, texts)?;
-    let core = check(alloc, parsed.classes.as_slice(), texts)?;
+    let core = check_needed(alloc, parsed.classes.as_slice(), texts)?;
     writer.program(&core)?;
     Ok(())
 }

@@ -187,7 +187,7 @@ impl Writer {
         self.close_record()
     }
 
-    /// The places of the line feeds in each text.
+    /// The positions of the line feeds in each text.
     fn newlines(&mut self, newlines: &[Items<u32>]) -> Result<(), AllocError> {
         self.open_list()?;
         for places in newlines {

@@ -93,7 +93,7 @@ impl Writer {
         self.close_list()
     }
 
-    /// Tests, and the statements that are done where one of them is true.
+    /// Tests, and the statements that are executed where one of them is true.
     #[cycle(write_stmt)]
     fn test(&mut self, test: &TypedBranch) -> Result<(), AllocError> {
         self.open_list()?;
@@ -121,7 +121,7 @@ impl Writer {
         self.close_list()
     }
 
-    /// What leaves a loop: 0 and `null` for always, 1 and the test that is false, or 2 and the test that is true.
+    /// What exits a loop: 0 and `null` for always, 1 and the test that is false, or 2 and the test that is true.
     fn exit(&mut self, exit: &LoopExit) -> Result<(), AllocError> {
         match exit {
             LoopExit::Break => {

@@ -3,11 +3,11 @@
 use std::alloc::{AllocError, Global};
 use std::fmt::Write;
 
-/// A text that grows by one item after the other.
+/// A text that grows item by item.
 #[derive(Drop)]
 pub struct Writer {
     pub text: String,
-    /// Whether the next item is the first of its list or record, or stands behind a key, so that no comma comes before it.
+    /// Whether the next item is the first of its list or record, or follows a key, so that no comma comes before it.
     is_first: bool,
 }
 
@@ -140,7 +140,7 @@ impl Writer {
     }
 }
 
-/// Whether a byte stands for itself in a string of JSON, and is written in ASCII.
+/// Whether a byte represents itself in a string of JSON, and is written in ASCII.
 fn is_plain(byte: u8) -> bool {
     byte >= b' ' && byte <= b'~' && byte != b'"' && byte != b'\\'
 }

@@ -35,7 +35,7 @@ bytes_of-none name (f ∷ fs) none =
     ap (λ b. cond b (Some f.1.items) (bytes_of name fs)) (apart name (string_bytes f.0) (none 0 f (omega arith)))
     ∙ bytes_of-none name fs (λ k d h. none (suc k) d (omega arith))
 
--- the first place of a name in the files behind the first one
+-- the first index of a name in the files after the first one
 later : (f : File) (fs : List File) (name : List ℕ) (k : ℕ) → IsFirstOfName (f ∷ fs) name (suc k) → IsFirstOfName fs name k
 later f fs name k first = record {
   within = omega (arith, first.within);
@@ -56,7 +56,7 @@ made_twice : {A : Type 0} (b : Bool) (x y z : A) → cond b x z ≡ cond b x (co
 made_twice true x y z = refl
 made_twice false x y z = refl
 
--- two tests that don't both hold may change places
+-- two tests that aren't both true may be swapped
 swapped : {A : Type 0} (a b : Bool) (x y z : A) → (a ≡ true → b ≡ true → ⊥) → cond a x (cond b y z) ≡ cond b y (cond a x z)
 swapped true true x y z not_both = absurd (not_both refl refl)
 swapped true false x y z not_both = refl

@@ -8,7 +8,7 @@ use Rattle.host_io.specs.declared.source.Take.TheVariants.{Byte, End, Failed}
 use Rattle.host_io.specs.declared.store.Outage.{Outage}
 use Rattle.host_io.specs.declared.store.Outage.TheVariants as outage
 
--- a call counted a fault exactly where it failed, which is its only outage
+-- a call counted a fault exactly if it failed, which is its only `Outage`
 abbrev pub CountsOutage : {T : Type 0} → Result T Outage → ℕ → ℕ → Type 0
 CountsOutage (Ok x) before after = after ≡ before
 CountsOutage (Err e) before after = (e ≡ outage.Failed) × (after ≡ one_more before)
@@ -19,17 +19,17 @@ faults_after (Byte b) faults = faults
 faults_after End faults = faults
 faults_after Failed faults = one_more faults
 
--- what an answer leaves of the bytes that a reader has left, where they are known
+-- what an answer leaves of the bytes that a reader has left, if they are known
 abbrev pub Draws : Take → Option (List ℕ) → Option (List ℕ) → Type 0
 Draws (Byte b) before after = Consumes before after (b ∷ [])
 Draws End before after = Keeps before after × IsAtEnd after
 Draws Failed before after = Keeps before after
 
--- the known bytes of a writer grow by a front of these
+-- a prefix of these is appended to the known bytes of a writer
 abbrev pub AppendsFront : Option (List ℕ) → Option (List ℕ) → List ℕ → Type 0
 AppendsFront before after bytes = (k : ℕ) × Appends before after (take k bytes)
 
--- a reader, whether it has told its end, and how often it has failed
+-- a reader, whether it has reported its end, and how often it has failed
 pub record ReaderState (R : Type 0) : Type 0 where
   pub reader : R
   pub ended : Bool

@@ -17,7 +17,7 @@ no_calls failing = record { made = 0; faults = 0; failing = failing }
 abbrev pub is_to_fail : Calls → Bool
 is_to_fail calls = list_any (λ n. n == calls.made) calls.failing
 
--- after the next call, which is a fault exactly where it is to fail
+-- after the next call, which is a fault exactly if it is to fail
 abbrev pub one_call : Calls → Calls
 one_call calls = record {
   made = one_more calls.made;

@@ -1,10 +1,10 @@
--- Files as a list of pairs, under their names.
+-- Files as a list of pairs of a name and its bytes.
 use Rattle.std.specs.Prelude.{◌≡◌, ◌≢◌, ℕ, ◌<◌, List, length, map, slice_index_or, AllPairs, Vec, String, string_bytes}
 use Rattle.std.specs.FinMap.{from_entries}
 use Rattle.std.specs.declared.alloc.Global.{Global}
 use Rattle.host_io.specs.Files.{Files}
 
--- a name with its bytes, as a store in memory keeps them
+-- a name with its bytes, as a store in memory represents them
 abbrev pub File : Type 0
 File = String Global × Vec ℕ Global
 
@@ -20,7 +20,7 @@ files_of files = from_entries (entries_of files)
 abbrev pub HaveDistinctNames : List File → Type 0
 HaveDistinctNames files = AllPairs (λ f g. string_bytes f.0 ≢ string_bytes g.0) files
 
--- the file at this place has this name, and none before it has
+-- the file at this index has this name, and none before it has
 pub record IsFirstOfName (files : List File) (name : List ℕ) (place : ℕ) : Type 0 where
   pub within : place < length files
   pub here : (d : File) → string_bytes (slice_index_or files place d).0 ≡ name

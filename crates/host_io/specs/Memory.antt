@@ -1,4 +1,4 @@
--- What the objects in memory hold.
+-- The models of the objects in memory.
 use Rattle.std.specs.Prelude.{◌≡◌, ℕ, ◌-◌, min, List, ◌++◌, length, take, drop, refl}
 use Rattle.std.specs.Coded.{Coded, code_by, coded×, coded_ℕ, coded_list}
 use Rattle.std.specs.FinMap.{code}
@@ -37,7 +37,7 @@ store_code =
     (λ p. record { files = p.0; calls = p.1 })
     (λ _. refl)
 
--- a read of n bytes filled the front of the buffer as far as the file goes from this place on, and left the rest of it
+-- a read of n bytes filled the front of the buffer as far as the file goes from this offset on, and left the rest of it
 pub record Fills (file : List ℕ) (place n : ℕ) (old new : List ℕ) : Type 0 where
   pub count : n ≡ min (length old) (length file - place)
   pub buffer : new ≡ take n (drop place file) ++ drop n old

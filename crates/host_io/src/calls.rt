@@ -1,4 +1,4 @@
-//! Counts the calls of an object in memory, and says which of them are to fail.
+//! Counts the calls of an object in memory, and decides which of them are to fail.
 
 ghost use Rattle.std.specs.Prelude.{◌≡◌, ◌≤◌};
 ghost use Rattle.host_io.specs.Calls.{no_calls, is_to_fail, one_call};
@@ -33,7 +33,7 @@ impl Calls {
         }
     }
 
-    /// Counts one call, and says whether it is to fail.
+    /// Counts one call, and decides whether it is to fail.
     pub(crate) fn next_fails(&mut self) -> bool
         ensures fails { result ≡ is_to_fail self.old }
         ensures calls { self.new ≡ one_call self.old }
@@ -48,7 +48,7 @@ impl Calls {
     }
 }
 
-/// The next count, which stands still at the last one.
+/// The next count, which saturates.
 pub(crate) fn one_more(count: u64) -> u64
     ensures { result ≡ one_more_of count }
 {

@@ -1,4 +1,4 @@
-//! A store over the files of the system.
+//! A store over the files of the operating system.
 
 ghost use Rattle.std.specs.Prelude.{◌≡◌, ◌<◌, ◌≤◌, length, None, IfOk};
 ghost use Rattle.host_io.specs.Adapters.{CountsOutage};
@@ -10,8 +10,8 @@ use std::fs::{self, Files};
 use std::io::{self, Seek, SeekFrom};
 use std::marker::Model;
 
-/// A store over the files of the system, which does not tell what it holds. Each call opens the file anew, so that it
-/// meets the file as it is then. Contracts see how often the store has failed.
+/// A store over the files of the operating system, which doesn't specify their content. Each call opens the file anew, so that it sees
+/// the file as it is then. Contracts see how often the store has failed.
 #[derive(Drop)]
 pub struct FileStore<R> {
     rt: R,
@@ -33,7 +33,7 @@ impl<R: Files> FileStore<R> {
         FileStore { rt, faults: 0 }
     }
 
-    /// The answer of a call, whose error is counted.
+    /// The result of a call, with an error counted.
     fn counted<T>(&mut self, answer: io::Result<T>) -> Result<T, Outage>
         ensures count { self.old ≤ self.new }
         ensures faults { CountsOutage result self.old self.new }
@@ -54,8 +54,8 @@ impl<R: Files> ReadFiles for FileStore<R> {
 
     ghost files = { λ _. None };
 
-    /// Reads bytes of the file from the place on until the buffer is full or the file ends, and gives their number. It
-    /// fails where the file can't be opened or read there.
+    /// Reads bytes of the file from the offset `place` on until the buffer is full or the file ends, and gives their number. It
+    /// fails if the file can't be opened or read there.
     fn read_at(&mut self, name: &str, place: u64, buffer: &mut [u8]) -> Result<usize, Outage>
         requires { 0 < length buffer.old }
         ensures within { IfOk result (λ n. n ≤ length buffer.new) }
@@ -68,7 +68,7 @@ impl<R: Files> ReadFiles for FileStore<R> {
 }
 
 impl<R: Files> WriteFiles for FileStore<R> {
-    /// Makes the file if it is missing, empties it and writes these bytes.
+    /// Creates the file if it is missing, empties it and writes these bytes.
     fn write(&mut self, name: &str, bytes: &[u8]) -> Result<(), Outage>
         ensures count { self.old ≤ self.new }
         ensures faults { CountsOutage result self.old self.new }

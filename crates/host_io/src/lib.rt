@@ -1,9 +1,11 @@
-//! The world outside a call: a store of files that is read or written, a source of bytes and a sink of bytes, as traits that
-//! say what each call did, the objects in memory that keep them, and the adapters over real files and streams.
+//! The host's input and output: a store of files that is read or written, a source of bytes and a sink of bytes, as traits that
+//! specify what each call did; the objects in memory that implement them; the adapters over real files and streams; and a store that
+//! has the program's input as a file.
 #![tactic(auto)]
 
 mod calls;
 mod file_store;
+mod input;
 mod mem_sink;
 mod mem_source;
 mod mem_store;
@@ -14,6 +16,7 @@ mod streams;
 mod sure;
 
 pub use file_store::FileStore;
+pub use input::InputStore;
 pub use mem_sink::MemSink;
 pub use mem_source::MemSource;
 pub use mem_store::MemStore;

@@ -11,7 +11,7 @@ use crate::sure::SureSink;
 use std::alloc::Global;
 use std::marker::Model;
 
-/// A sink of bytes in memory, which tells what it has taken. Contracts see these bytes and its calls.
+/// A sink of bytes in memory, which specifies what it has taken. Contracts see these bytes and its calls.
 #[derive(Debug, Drop)]
 pub struct MemSink {
     sink: SureSink,
@@ -51,7 +51,7 @@ impl Sink for MemSink {
 
     ghost output = { λ s. Some s.taken };
 
-    /// Takes these bytes behind those that it has. It fails exactly at a listed call, and takes nothing then, nor where
+    /// Appends these bytes to those that it has. It fails exactly at a listed call, and takes nothing then, nor where
     /// memory is short. To put an empty piece is no call.
     fn put(&mut self, bytes: &[u8]) -> Result<(), Outage>
         ensures ok { OnOk result (self.new.taken ≡ self.old.taken ++ bytes.now) }

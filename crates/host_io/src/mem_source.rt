@@ -10,7 +10,7 @@ use crate::source::{Source, Take};
 use crate::sure::SureSource;
 use std::marker::Model;
 
-/// A source of bytes in memory, which tells what it has left. Contracts see its input and its calls.
+/// A source of bytes in memory, which specifies what it has left. Contracts see its input and its calls.
 #[derive(Debug, Drop)]
 pub struct MemSource {
     source: SureSource,
@@ -45,7 +45,7 @@ impl Source for MemSource {
 
     ghost ended = { λ s. is_at_end s.input };
 
-    /// Gives the next byte, or the end exactly where none is left. It fails exactly at a listed call.
+    /// Gives the next byte, or the end exactly if none is left. It fails exactly at a listed call.
     fn take(&mut self) -> Take
         ensures gives { Gives result (Some self.old.input) (Some self.new.input) }
         ensures ends { Ends result (is_at_end self.old.input) (is_at_end self.new.input) }

@@ -15,7 +15,7 @@ use crate::store::{Outage, ReadFiles, WriteFiles};
 use std::alloc::AllocError;
 use std::marker::Model;
 
-/// A store of files in memory, which tells what it holds. Contracts see its files and its calls.
+/// A store of files in memory, which specifies their content. Contracts see its files and its calls.
 #[derive(Debug, Drop)]
 pub struct MemStore {
     files: Vec<(String, Vec<u8>)>,
@@ -59,7 +59,7 @@ impl MemStore {
         true
     }
 
-    /// The bytes of the file of this name, or None where the store has no such file.
+    /// The bytes of the file of this name, or None if the store has no such file.
     pub fn file(&self, name: &str) -> Option<&[u8]>
         ensures { option_copied result ≡ get self.now.files name.now }
     {
@@ -72,8 +72,8 @@ impl ReadFiles for MemStore {
 
     ghost files = { λ s. Some s.files };
 
-    /// Reads bytes of the file from the place on into the front of the buffer, as many as the file and the buffer have,
-    /// and gives their number. It fails exactly at a listed call, and where the store has no such file.
+    /// Reads bytes of the file from the offset `place` on into the front of the buffer, as many as the file and the buffer have,
+    /// and gives their number. It fails exactly at a listed call, and if the store has no such file.
     fn read_at(&mut self, name: &str, place: u64, buffer: &mut [u8]) -> Result<usize, Outage>
         requires { 0 < length buffer.old }
         ensures within { IfOk result (λ n. n ≤ length buffer.new) }
@@ -101,7 +101,7 @@ impl ReadFiles for MemStore {
 }
 
 impl WriteFiles for MemStore {
-    /// Makes the file hold these bytes. It fails exactly at a listed call, and changes no file then, nor where memory is
+    /// Makes the file contain these bytes. It fails exactly at a listed call, and changes no file then, nor where memory is
     /// short.
     fn write(&mut self, name: &str, bytes: &[u8]) -> Result<(), Outage>
         ensures ok { OnOk result (self.new.files ≡ insert self.old.files name.now bytes.now) }
@@ -119,7 +119,7 @@ impl WriteFiles for MemStore {
     }
 }
 
-/// Copies the bytes of the file from the place on into the front of the buffer, as far as both go.
+/// Copies the bytes of the file from the offset `place` on into the front of the buffer, as far as both go, and gives their number.
 fn fill(file: &[u8], place: u64, buffer: &mut [u8]) -> usize
     requires { 0 < length buffer.old }
     ensures part { IsPart file.now place result buffer.new }
@@ -132,7 +132,7 @@ fn fill(file: &[u8], place: u64, buffer: &mut [u8]) -> usize
     count
 }
 
-/// Makes the file of this name hold a copy of these bytes.
+/// Makes the file of this name contain a copy of these bytes.
 fn copy_to(files: &mut Vec<(String, Vec<u8>)>, name: &str, bytes: &[u8]) -> Result<(), AllocError>
     ensures ok { OnOk result (files_of files.new.items ≡ insert (files_of files.old.items) name.now bytes.now) }
     ensures err { OnErr result (files.new.items ≡ files.old.items) }
@@ -141,7 +141,7 @@ fn copy_to(files: &mut Vec<(String, Vec<u8>)>, name: &str, bytes: &[u8]) -> Resu
     set(files, name, copy)
 }
 
-/// The place of the first file of this name.
+/// The index of the first file of this name.
 fn place_of(files: &[(String, Vec<u8>)], name: &str) -> Option<usize>
     ensures found { IfSome result (IsFirstOfName files.now name.now) }
     ensures none { IfNone result ((k : ℕ) (d : File) →
@@ -163,7 +163,7 @@ fn find<'a>(files: &'a [(String, Vec<u8>)], name: &str) -> Option<&'a [u8]>
     Some(files[place].1.as_slice())
 }
 
-/// Makes the file of this name hold these bytes.
+/// Makes the file of this name contain these bytes.
 fn set(files: &mut Vec<(String, Vec<u8>)>, name: &str, bytes: Vec<u8>) -> Result<(), AllocError>
     ensures ok { OnOk result (files_of files.new.items ≡ insert (files_of files.old.items) name.now bytes.items) }
     ensures err { OnErr result (files.new.items ≡ files.old.items) }

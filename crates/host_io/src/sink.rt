@@ -11,10 +11,10 @@ pub trait Sink {
     /// How often it has failed.
     ghost faults: { Self → ℕ };
 
-    /// The bytes that it has taken, where it tells.
+    /// The bytes that it has taken, if it specifies them.
     ghost output: { Self → Option (List ℕ) };
 
-    /// Takes these bytes behind those that it has. After an outage it has taken a front of them.
+    /// Appends these bytes to those that it has. After an error it has taken a prefix of them.
     fn put(&mut self, bytes: &[u8]) -> Result<(), Outage>
         ensures ok { OnOk result (Took (output self.old) (output self.new) bytes.now) }
         ensures outage { OnErr result (TookFront (output self.old) (output self.new) bytes.now) }
@@ -24,7 +24,7 @@ pub trait Sink {
         // An empty piece changes nothing.
         ensures empty { bytes.now ≡ [] → IsOk result × (faults self.new ≡ faults self.old) };
 
-    /// Whether someone reads along, so that each line is to be put as soon as it is there. Else pieces of any size serve.
+    /// Whether someone reads along, so that each line is to be put as soon as it is complete. Otherwise pieces of any size will do.
     fn wants_lines(&self) -> bool {
         false
     }

@@ -19,13 +19,13 @@ pub trait Source {
     /// How often it has failed.
     ghost faults: { Self → ℕ };
 
-    /// The bytes that it has left and the ends that it has given, where it tells.
+    /// The bytes that it has left and the number of ends that it has given, if it specifies them.
     ghost input: { Self → Option Input };
 
-    /// Whether it has come to its end, after which it gives no byte.
+    /// Whether it has reached its end, after which it gives no byte.
     ghost ended: { Self → Bool };
 
-    /// Gives the next byte, or the end exactly where none is left. No byte follows an end.
+    /// Gives the next byte, or the end exactly if none is left. No byte follows an end.
     fn take(&mut self) -> Take
         ensures gives { Gives result (input self.old) (input self.new) }
         ensures ends { Ends result (ended self.old) (ended self.new) }

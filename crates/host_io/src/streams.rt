@@ -12,8 +12,8 @@ use crate::store::Outage;
 use std::io::{self, ErrorKind, IsTerminal, Read, Write};
 use std::marker::Model;
 
-/// A source over a reader, which does not tell what it has left. It reads a byte at a time: give it a `BufReader` where
-/// that is slow. Contracts see the reader, whether it has told its end, and how often it has failed.
+/// A source over a reader, which doesn't specify what it has left. It reads a byte at a time: give it a `BufReader` if
+/// that is too slow. Contracts see the reader, whether it has reported its end, and how often it has failed.
 #[derive(Drop)]
 pub struct ReadSource<R: Read> {
     reader: R,
@@ -54,7 +54,7 @@ impl<R: Read> Source for ReadSource<R> {
 
     ghost ended = { λ s. s.ended };
 
-    /// Gives the next byte of the reader, or the end. After its first end it gives no byte any more.
+    /// Gives the next byte of the reader, or the end. After its first end it gives no further byte.
     fn take(&mut self) -> Take
         ensures count { self.old.faults ≤ self.new.faults }
         ensures faults { self.new.faults ≡ faults_after result self.old.faults }
@@ -75,7 +75,7 @@ impl<R: Read> Source for ReadSource<R> {
     }
 }
 
-/// A sink over a writer, which does not tell what it has taken. Contracts see the writer, and how often it has failed.
+/// A sink over a writer, which doesn't specify what it has taken. Contracts see the writer, and how often it has failed.
 #[derive(Drop)]
 pub struct WriteSink<W> {
     writer: W,
@@ -106,7 +106,7 @@ impl<W: Write> WriteSink<W> {
 }
 
 impl<W: Write + IsTerminal> WriteSink<W> {
-    /// A sink over a stream, which wants each line where the stream is a terminal.
+    /// A sink over a stream, which wants each line at once if the stream is a terminal.
     pub fn of_stream(writer: W) -> WriteSink<W>
         ensures { result ≡ record { writer = writer; faults = 0 } }
     {
@@ -124,7 +124,7 @@ impl<W: Write> Sink for WriteSink<W> {
 
     ghost output = { λ _. None };
 
-    /// Writes these bytes and flushes the writer. After an outage a front of them was written. An empty piece calls
+    /// Writes these bytes and flushes the writer. After an error a prefix of them was written. An empty piece calls
     /// nothing.
     fn put(&mut self, bytes: &[u8]) -> Result<(), Outage>
         ensures count { self.old.faults ≤ self.new.faults }
@@ -152,7 +152,7 @@ impl<W: Write> Sink for WriteSink<W> {
     }
 }
 
-/// One read of a reader. A read that is interrupted is tried again.
+/// One read of a reader. An interrupted read is tried again.
 fn read_some<R: Read>(reader: &mut R, buffer: &mut [u8]) -> io::Result<usize>
     ensures within { ReadsAtMost result buffer.new }
     ensures bytes { ReadConsumes (R.remaining reader.old) (R.remaining reader.new) result buffer.new }
@@ -193,7 +193,7 @@ fn read_byte<R: Read>(reader: &mut R) -> Take
     }
 }
 
-/// One write to a writer, of at least one byte. A write that is interrupted is tried again.
+/// One write to a writer, of at least one byte. An interrupted write is tried again.
 fn write_some<W: Write>(writer: &mut W, bytes: &[u8]) -> io::Result<usize>
     requires { 0 < length bytes.now }
     ensures count { IfOk result (λ count. (0 < count) × (count ≤ length bytes.now)) }
@@ -209,7 +209,7 @@ fn write_some<W: Write>(writer: &mut W, bytes: &[u8]) -> io::Result<usize>
     Err(ErrorKind::TimedOut.into())
 }
 
-/// Writes all of these bytes, in as many writes as it takes. After an error a front of them was written.
+/// Writes all of these bytes, in as many writes as necessary. After an error a prefix of them was written.
 fn write_all<W: Write>(writer: &mut W, bytes: &[u8]) -> io::Result<()>
     ensures ok { OnOk result (Appends (W.contents writer.old) (W.contents writer.new) bytes.now) }
     ensures err { OnErr result (AppendsFront (W.contents writer.old) (W.contents writer.new) bytes.now) }
@@ -221,7 +221,7 @@ fn write_all<W: Write>(writer: &mut W, bytes: &[u8]) -> io::Result<()>
     Ok(())
 }
 
-/// Writes all of these bytes and flushes the writer. After an error a front of them was written.
+/// Writes all of these bytes and flushes the writer. After an error a prefix of them was written.
 pub(crate) fn write_out<W: Write>(writer: &mut W, bytes: &[u8]) -> io::Result<()>
     ensures ok { OnOk result (Appends (W.contents writer.old) (W.contents writer.new) bytes.now) }
     ensures err { OnErr result (AppendsFront (W.contents writer.old) (W.contents writer.new) bytes.now) }

@@ -46,7 +46,7 @@ impl Source for SureSource {
 
     ghost ended = { λ s. is_at_end s };
 
-    /// Gives the next byte, or the end exactly where none is left.
+    /// Gives the next byte, or the end exactly if none is left.
     fn take(&mut self) -> Take
         ensures gives { Gives result (Some self.old) (Some self.new) }
         ensures ends { Ends result (is_at_end self.old) (is_at_end self.new) }
@@ -99,7 +99,7 @@ impl Sink for SureSink {
 
     ghost output = { λ s. Some s };
 
-    /// Takes these bytes behind those that it has, or nothing where memory is short.
+    /// Appends these bytes to those that it has, or nothing where memory is short.
     fn put(&mut self, bytes: &[u8]) -> Result<(), Outage>
         ensures ok { OnOk result (self.new ≡ self.old ++ bytes.now) }
         ensures outage { OnErr result (self.new ≡ self.old) }

@@ -1,4 +1,4 @@
--- Two lists compared pair by pair, from a place on.
+-- Two lists compared element by element, from an index on.
 use Rattle.std.proofs.Common.{◌≡◌, ◌≢◌, ℕ, suc, ◌+◌, ◌<◌, Bool, true, false, List, [], ◌∷◌, length, get_or, drop, refl, ap, ◌∙◌, add-one}
 use Rattle.std.proofs.Common.{drop-cons, ◌&&◌}
 use Rattle.std.proofs.Math.Seq.{drop-length}

@@ -1,4 +1,4 @@
--- What is hashed of a list of types, from a place on.
+-- What is hashed of a list of types, from an index on.
 use Rattle.std.proofs.Common.{◌≡◌, ℕ, ◌+◌, ◌<◌, List, length, get_or, drop, ◌++◌, add-one, drop-cons}
 use Rattle.std.proofs.Math.Seq.{drop-length}
 use Rattle.std.proofs.lemmas.Grind.{fold-append}

@@ -1,4 +1,4 @@
--- The texts of a program.
+-- The source texts of a program.
 use Rattle.std.specs.Prelude.{ℕ, List, [], slice_index_or}
 use Rattle.sa_ast.specs.declared.pos.Sources.{Sources}
 

@@ -17,7 +17,7 @@ same_mode Inout Inout = true
 same_mode Once Once = true
 same_mode _ _ = false
 
--- whether two types are of one variant and agree in all that it holds
+-- whether two types are of one variant and agree in all its fields
 abbrev mutual
   pub same_type : BareTy → BareTy → Bool
   same_type (Named m ts) (Named n us) = pointwise nat_eq m n && same_types ts us

@@ -1,4 +1,4 @@
--- What `hash` of a type feeds a hasher. It follows from the type without its positions.
+-- What `hash` of a type writes to a hasher. It follows from the type without its positions.
 use Rattle.std.specs.Prelude.{◌++◌, pos}
 use Rattle.std.specs.Hash as fed
 use Rattle.std.specs.Hash.{HashWrites}
@@ -15,7 +15,7 @@ mode_writes Out = fed.isize (pos 1)
 mode_writes Inout = fed.isize (pos 2)
 mode_writes Once = fed.isize (pos 3)
 
--- the variant's number, and then what it holds; 4, which begins no type, stands where no more types come
+-- the variant's number, and then its fields; 4, which begins no type, is written where no more types come
 abbrev mutual
   pub type_writes : BareTy → HashWrites
   type_writes (Named name params) = fed.u8 0 ++ name_writes name ++ types_writes params

@@ -29,7 +29,7 @@ mutual
     no_result : BareResult
     gives : BareTy → BareResult
 
--- ---- a list or an option, as the tree holds them, of types without positions
+-- ---- a list or an option, as the AST has them, of types without positions
 
 abbrev pub bare_tys : List BareTy → BareTys
 bare_tys [] = no_types
@@ -45,7 +45,7 @@ bare_result (Some t) = gives t
 
 -- ---- a type of a source without its positions
 
--- one level, where the types inside have lost their positions already
+-- one level, where the types inside are without their positions already
 abbrev pub bare_level : Ty-F BareTy (Mode × BareTy) → BareTy
 bare_level (Ty-F.Named name params pos) = Named name (bare_tys params)
 bare_level (Ty-F.Same pos) = Same

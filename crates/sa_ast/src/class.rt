@@ -14,13 +14,13 @@ pub struct FormalParam {
     pub ty: Ty,
 }
 
-/// Who sees a feature.
+/// The visibility of a feature.
 #[derive(Clone, Copy, Debug, PartialEq, Eq, Hash)]
 pub enum Access {
     Public,
-    /// The code of the same class alone.
+    /// Visible to the code of its class alone.
     Private,
-    /// The reader of an attribute or a shared is public, and its writer private.
+    /// The reader of an attribute or a shared is public, and its writer is private.
     ReadOnly,
 }
 
@@ -30,13 +30,13 @@ pub enum FeatureBody {
     Routine(Body),
     /// A feature of an abstract class.
     Signature,
-    /// A feature that the including class has to give.
+    /// A feature that the including class has to define.
     Stub,
-    /// A feature that the implementation gives, by the names of the class and the feature as the prelude writes them.
+    /// A feature that the implementation defines, by the names of the class and the feature as the prelude writes them.
     Builtin(Name, Name),
     Attr,
     Shared(Option<Expr>),
-    /// The expression plus the number. No expression stands for 0.
+    /// The expression plus the number. Where no expression is written, it counts as 0.
     Const(Option<Expr>, u32),
 }
 
@@ -50,7 +50,7 @@ pub struct Feature {
     pub part: FeatureBody,
 }
 
-/// A change that an include makes: to the features of this name, `to` is their new name, or they are left out.
+/// A modifier of an include clause: the features of this name get the name `to`, or are left out where there is none.
 #[derive(Drop)]
 pub struct FeatureModifier {
     pub from: Local,
@@ -66,7 +66,7 @@ pub struct Include {
     pub changes: Items<FeatureModifier>,
 }
 
-/// What kind of class it is.
+/// The kind of a class.
 #[derive(Clone, Copy, Debug, PartialEq, Eq, Hash)]
 pub enum ClassKind {
     Reference,
@@ -75,7 +75,7 @@ pub enum ClassKind {
     Partial,
 }
 
-/// A parameter of a class, with the type that bounds it.
+/// A type parameter of a class, with the type that bounds it.
 #[derive(Drop)]
 pub struct TypeParam {
     pub name: Local,
@@ -88,15 +88,15 @@ pub struct Class {
     pub kind: ClassKind,
     pub name: Local,
     pub params: Items<TypeParam>,
-    /// The types after `<`.
+    /// The supertypes, written after `<`.
     pub below: Items<Ty>,
-    /// The types after `>`.
+    /// The subtypes, written after `>`.
     pub above: Items<Ty>,
     pub includes: Items<Include>,
     pub features: Items<Feature>,
 }
 
-/// Classes without includes, whose features are all that they have: those that came by an include first.
+/// Classes after their includes are resolved: each has all its features, those that came by an include first.
 #[derive(Drop)]
 pub struct FlatClass {
     pub classes: Items<Class>,

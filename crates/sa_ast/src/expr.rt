@@ -1,4 +1,4 @@
-//! Expressions as they are written. Parentheses are gone.
+//! Expressions as they are written. Parentheses aren't kept.
 
 use crate::name::Name;
 use crate::pos::Pos;
@@ -26,11 +26,11 @@ pub enum Operator {
     Not,
 }
 
-/// What a call is made on.
+/// The receiver of a call.
 #[cycle(expr)]
 #[derive(Drop)]
 pub enum ExprReceiver {
-    /// Nothing is written: `f`.
+    /// None is written: `f`.
     Implied,
     /// A value: `e.f`.
     Of(Boxed<Expr>),
@@ -43,12 +43,12 @@ pub enum ExprReceiver {
 #[derive(Drop)]
 pub enum ExprArg {
     Value(Mode, Expr),
-    /// An argument that a bind leaves open, with its type where one is written.
+    /// An argument that a bind leaves unbound, with its type where one is written.
     Unbound(Option<Ty>, Pos),
 }
 
-/// An expression. A call, an operator and an assignment stand at their name, operator or `:=`, and every other form at
-/// its first token.
+/// An expression. The position of a call, an operator and an assignment is that of its name, operator or `:=`, and the position of
+/// every other form is that of its first token.
 #[cycle(expr)]
 #[derive(Drop)]
 pub enum Expr {

@@ -12,13 +12,13 @@ pub enum FaultKind {
     DivisionByZero = 2,
     /// A receiver, or what is raised, is void.
     Void = 3,
-    /// A place or a count is out of range.
+    /// An index or a count is out of range.
     Index = 4,
-    /// No branch of a case or a typecase fits.
+    /// No branch of a case or a typecase matches.
     NoBranch = 5,
     /// A routine with a result ends without a `return`.
     NoReturn = 6,
-    /// What is asserted is false.
+    /// An asserted condition is false.
     Assert = 7,
     /// An exception that a `raise` raised is caught nowhere.
     Uncaught = 8,

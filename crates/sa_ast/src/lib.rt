@@ -1,4 +1,4 @@
-//! The tree of a Sather program, as its text spells it, with the positions that refusals and faults name.
+//! The abstract syntax tree (AST) of a Sather program, with the positions that refusals and faults name.
 #![tactic(auto)]
 
 mod class;
@@ -19,10 +19,11 @@ pub use class::{
 };
 pub use contract::{Condition, Contract};
 pub use expr::{Expr, ExprArg, ExprReceiver, Operator};
+pub use failure::NoMemory;
 pub use fault_kind::FaultKind;
 pub use name::Name;
 pub use pos::{Pos, Sources, line_of};
-pub use refusal::{NoMemory, Refusal, Rejection, held};
+pub use refusal::{Refusal, Rejection};
 pub use rule::Rule;
 pub use shared::Shared;
 pub use stmt::{Body, BranchArm, CaseArm, Local, Stmt, TypeArm};

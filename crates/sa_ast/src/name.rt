@@ -14,7 +14,7 @@ use std::hash::{Hash, Hasher};
 use std::marker::Model;
 use std::rc::Rc;
 
-/// A name as its token spells it, `$` and `!` included, or the bytes that a literal stands for. Copies share the bytes.
+/// A name as its token spells it, `$` and `!` included, or the bytes that a literal denotes. Copies share the bytes.
 #[derive(Debug, Drop)]
 pub struct Name {
     bytes: Rc<Vec<u8>>,
@@ -46,7 +46,7 @@ impl Name {
         self.bytes.as_ref().as_slice()
     }
 
-    /// The same name once more, with the same bytes in memory. It fails where copies can't be counted any more.
+    /// A copy of the name, with the same bytes in memory. It fails where copies can't be counted any more.
     pub fn copy(&self, _alloc: Global) -> Result<Name, AllocError>
         ensures { IfOk result (λ name. name ≡ self.now) }
     {

@@ -1,4 +1,4 @@
-//! Where a form stands, and the line of a place in a text.
+//! The position of a form, and the line of a position in a text.
 
 ghost use Rattle.std.specs.Prelude.{◌≡◌, ◌+◌, ◌<◌, ◌≤◌, ◌==◌, count_by, length, take};
 ghost use Rattle.sa_ast.specs.Sources.{text_of};
@@ -6,24 +6,24 @@ ghost use Rattle.sa_ast.specs.Sources.{text_of};
 use crate::name::Name;
 use sqlite_items::Items;
 
-/// A place in one of a program's texts.
+/// A position in one of a program's source texts.
 #[derive(Clone, Copy, Debug, PartialEq, Eq, Hash)]
 pub struct Pos {
-    /// The number of the text: 0 is the prelude, and the command's files follow from 1 in order.
+    /// The index of the text: 0 is the prelude, and the command's files follow from 1 in order.
     pub file: u32,
-    /// The byte's place in the text, from 0.
+    /// The offset of the byte in the text, from 0.
     pub at: u32,
 }
 
-/// A program's texts in order, each with its name. The prelude is the first.
+/// A program's source texts in order, each with its name. The prelude is the first.
 #[derive(Drop)]
 pub struct Sources {
     pub names: Items<Name>,
     pub texts: Items<Items<u8>>,
 }
 
-/// The number of the line that a place is in, from 1. A line feed ends the line that it is in, and a place past the end
-/// of its text is in the last line.
+/// The line number of a position, from 1. A line feed belongs to the line that it ends, and a position past the end of its text is
+/// in the last line.
 pub fn line_of(sources: &Sources, pos: Pos) -> u32
     requires text { pos.file < length sources.now.texts }
     requires short { length (text_of sources.now pos.file) < 4_294_967_295 }

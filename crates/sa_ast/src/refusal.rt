@@ -1,14 +1,16 @@
 //! Why a source isn't accepted.
 
 ghost use Rattle.std.specs.Prelude.{◌≡◌};
+ghost use Rattle.failure.specs.declared.reason.Failure.TheVariants as failure;
 ghost use Rattle.sa_ast.specs.declared.refusal.Rejection.TheVariants as fault;
 
 use crate::pos::Pos;
 use crate::rule::Rule;
+use failure::{Failure, NoMemory};
 use std::alloc::{AllocError, AllocFailed};
 use thiserror::Error;
 
-/// The written rule that a source breaks, and where.
+/// The written rule that a source breaks, and the position where it does.
 #[derive(Clone, Copy, Debug, PartialEq, Eq, Hash, Error)]
 #[error("{rule}")]
 pub struct Refusal {
@@ -16,39 +18,13 @@ pub struct Refusal {
     pub pos: Pos,
 }
 
-/// Why a pass over a source gives no answer.
+/// Why a pass over a source gives no result.
 #[derive(Clone, Copy, Debug, PartialEq, Eq, Hash, Error)]
 pub enum Rejection {
     #[error(transparent)]
     Refused(Refusal),
-    #[error("out of memory")]
-    NoMemory,
-}
-
-/// Memory has run out.
-#[derive(Clone, Copy, Debug, PartialEq, Eq, Hash, Error)]
-#[error("out of memory")]
-pub struct NoMemory;
-
-impl From<AllocError> for NoMemory {
-    ghost from_gives = { λ _ e. e ≡ record {} };
-
-    fn from(_error: AllocError) -> NoMemory {
-        NoMemory
-    }
-}
-
-impl<T: Drop> From<AllocFailed<T>> for NoMemory {
-    ghost from_gives = { λ _ e. e ≡ record {} };
-
-    fn from(_error: AllocFailed<T>) -> NoMemory {
-        NoMemory
-    }
-}
-
-/// What is there by the way that the tables were made. Where it isn't, memory is said to have run out.
-pub fn held<T>(found: Option<T>) -> Result<T, NoMemory> {
-    found.ok_or(NoMemory)
+    #[error(transparent)]
+    Failed(Failure),
 }
 
 impl From<Refusal> for Rejection {
@@ -60,25 +36,33 @@ impl From<Refusal> for Rejection {
 }
 
 impl From<AllocError> for Rejection {
-    ghost from_gives = { λ _ e. e ≡ fault.NoMemory };
+    ghost from_gives = { λ _ e. e ≡ fault.Failed failure.NoMemory };
 
     fn from(_error: AllocError) -> Rejection {
-        Rejection::NoMemory
+        Rejection::Failed(Failure::NoMemory)
     }
 }
 
 impl<T: Drop> From<AllocFailed<T>> for Rejection {
-    ghost from_gives = { λ _ e. e ≡ fault.NoMemory };
+    ghost from_gives = { λ _ e. e ≡ fault.Failed failure.NoMemory };
 
     fn from(_error: AllocFailed<T>) -> Rejection {
-        Rejection::NoMemory
+        Rejection::Failed(Failure::NoMemory)
     }
 }
 
 impl From<NoMemory> for Rejection {
-    ghost from_gives = { λ _ e. e ≡ fault.NoMemory };
+    ghost from_gives = { λ _ e. e ≡ fault.Failed failure.NoMemory };
 
     fn from(_error: NoMemory) -> Rejection {
-        Rejection::NoMemory
+        Rejection::Failed(Failure::NoMemory)
+    }
+}
+
+impl From<Failure> for Rejection {
+    ghost from_gives = { λ failure e. e ≡ fault.Failed failure };
+
+    fn from(failure: Failure) -> Rejection {
+        Rejection::Failed(failure)
     }
 }

@@ -14,13 +14,13 @@ pub enum Rule {
     BadByte,
     /// E02: a literal doesn't end on its line, or a character has no or several bytes.
     LiteralNotEnded,
-    /// E03: a number is above 2147483647.
+    /// E03: a number is greater than 2147483647.
     NumberTooLarge,
     /// E04: a prefix has no digit, or a letter, a digit or a fraction follows a number.
     NumberForm,
     /// E05: an escape isn't known.
     UnknownEscape,
-    /// E06: a token, or the end of the file, can't stand where it does.
+    /// E06: a token, or the end of the file, isn't allowed where it is.
     UnexpectedToken,
     /// E07: a token makes the level of nesting 201.
     NestedTooDeep,
@@ -30,25 +30,25 @@ pub enum Rule {
     ClassDefinedTwice,
     /// E11: two features that a class writes conflict.
     FeaturesConflict,
-    /// E12: a name is no class, or that of one which can't be used there.
+    /// E12: no class has the name, or the class can't be used there.
     ClassNotUsable,
     /// E13: a class has another number of parameters.
     ParameterCount,
-    /// E14: a type isn't below the bound of its parameter.
+    /// E14: a type isn't a subtype of the bound of its parameter.
     BoundNotMet,
-    /// E15: a class includes itself, or an immutable class holds itself, by itself or by others.
+    /// E15: a class includes itself, or an immutable class contains itself, directly or by way of others.
     Cycle,
-    /// E16: a change of an include names a feature that the include doesn't bring.
+    /// E16: a modifier of an include names a feature that the include doesn't bring.
     NoSuchIncludedFeature,
     /// E17: two features that includes bring conflict, or two includes bring an array part.
     IncludedFeaturesConflict,
-    /// E18: a class is below itself by way of others.
+    /// E18: a class is its own supertype by way of others.
     SubtypeCycle,
     /// E19: a type after `<` is no abstract class.
     SupertypeNotAbstract,
-    /// E20: no feature of a class conforms to a signature of an abstract class above it.
+    /// E20: no feature of a class conforms to a signature of an abstract class that is its supertype.
     NoConformingFeature,
-    /// E21: several features of a class conform to a signature of an abstract class above it.
+    /// E21: several features of a class conform to a signature of an abstract class that is its supertype.
     SeveralConformingFeatures,
     /// E22: a class that isn't partial has a stub.
     StubLeft,
@@ -58,31 +58,31 @@ pub enum Rule {
     NoMain,
     /// E30: nothing has the name of a call.
     UnknownName,
-    /// E31: no feature of the name fits a call.
+    /// E31: no feature of the name is applicable to a call.
     NoFeatureFits,
-    /// E32: several features fit a call, and none of them is the most specific one.
+    /// E32: several features are applicable to a call, and none of them is the most specific one.
     SeveralFeaturesFit,
-    /// E33: a form wants another type.
+    /// E33: a form requires another type.
     WrongType,
-    /// E34: only private features have the name of a call, and they aren't seen there.
+    /// E34: only private features have the name of a call, and they aren't visible there.
     PrivateFeature,
     /// E35: an iter is called outside a loop.
     IterOutsideLoop,
     /// E36: an iter is called in the receiver of another one, or in an argument of a `once` parameter.
     IterInSelfOrOnce,
-    /// E37: a `yield` or a `quit` stands in a routine, or a `return` in an iter.
+    /// E37: a `yield` or a `quit` is in a routine, or a `return` in an iter.
     OutOfPlace,
-    /// E38: a protect stands between an iter call and its loop, or a `yield` or a `quit` stands in one.
+    /// E38: a protect is between an iter call and its loop, or a `yield` or a `quit` is in one.
     NotAllowedInProtect,
-    /// E39: what is written names no variable.
+    /// E39: what is assigned to, or passed as an `out` or `inout` argument, names no variable.
     NotAssignable,
     /// E41: a form takes its type from its context, which doesn't give one.
     NoTypeFromContext,
     /// E42: a branch of a typecase writes the tested variable.
     TypecaseVariable,
-    /// E43: a variable is declared where one of its name is.
+    /// E43: a variable is declared where one of its name is declared already.
     DeclaredTwice,
-    /// E44: `exception` stands outside the branches of a protect.
+    /// E44: `exception` is outside the branches of a protect.
     ExceptionOutsideBranch,
     /// E45: a bind is of something that it has no form for.
     BadBind,
@@ -100,12 +100,12 @@ pub enum Rule {
     TooManyOutArguments,
     /// E55: the needed instances have more than 200,000 statements, expressions and features together.
     ProgramTooLarge,
-    /// E56: there are more than 100,000 pairs of a signature and a class below its type.
+    /// E56: there are more than 100,000 pairs of a signature and a class that is a subtype of its type.
     TooManyPairs,
 }
 
 impl Rule {
-    /// The refusal of what stands at a position by this rule.
+    /// The refusal that names this rule and this position.
     pub fn at(self, pos: Pos) -> Refusal
         ensures { result ≡ record { rule = self; pos = pos } }
     {

@@ -1,4 +1,4 @@
-//! A value with several owners, which contracts see as the value.
+//! A value with several owners, which contracts see as the value itself.
 
 ghost use Rattle.std.specs.Prelude.{◌≡◌, IfOk};
 
@@ -6,7 +6,7 @@ use std::alloc::{AllocError, Global};
 use std::marker::Model;
 use std::rc::Rc;
 
-/// A value with several owners, which contracts see as the value.
+/// A value with several owners, which contracts see as the value itself.
 #[derive(Drop)]
 pub struct Shared<T> {
     inner: Rc<T>,
@@ -35,7 +35,7 @@ impl<T: Drop> Shared<T> {
         self.inner.as_ref()
     }
 
-    /// One more owner of the value, which is not copied. It fails where owners can't be counted any more.
+    /// One more owner of the value, which isn't copied. It fails where owners can't be counted any more.
     pub fn share(&self) -> Result<Shared<T>, AllocError>
         ensures { IfOk result (λ shared. shared ≡ self.now) }
     {

@@ -14,7 +14,7 @@ pub struct Local {
     pub pos: Pos,
 }
 
-/// A test with its statements: `if` or `elsif`.
+/// A condition with its statements: `if` or `elsif`.
 #[cycle(stmt)]
 #[derive(Drop)]
 pub struct BranchArm {
@@ -38,8 +38,8 @@ pub struct TypeArm {
     pub body: Items<Stmt>,
 }
 
-/// A statement, at the position of its first token. An assignment stands at its `:=`, a declaration at its first name
-/// and an expression at its own position.
+/// A statement. Its position is that of its first token; that of an assignment is its `:=`, that of a declaration its first name,
+/// and that of an expression the position of the expression.
 #[cycle(stmt)]
 #[derive(Drop)]
 pub enum Stmt {

@@ -16,7 +16,7 @@ use sqlite_items::{Boxed, Items};
 use std::alloc::{AllocError, Global};
 use std::hash::{Hash, Hasher};
 
-/// How an argument is passed.
+/// The mode in which an argument is passed.
 #[derive(Clone, Copy, Debug, PartialEq, Eq, Hash)]
 pub enum Mode {
     In,
@@ -33,13 +33,13 @@ pub struct ModeTy {
     pub ty: Ty,
 }
 
-/// A type, at the position of its first token.
+/// A type. Its position is that of its first token.
 #[cycle(ty)]
 #[derive(Drop)]
 pub enum Ty {
-    /// A class with its parameters, or a parameter.
+    /// A class with its type arguments, or a type parameter.
     Named(Name, Items<Ty>, Pos),
-    /// The class that the feature stands in.
+    /// The class that has the feature.
     Same(Pos),
     /// A bound routine by its arguments and its result.
     Rout(Items<ModeTy>, Option<Boxed<Ty>>, Pos),
@@ -48,7 +48,7 @@ pub enum Ty {
 }
 
 impl Ty {
-    /// The same type once more, with the same positions. It fails only where memory runs out.
+    /// A copy of the type, with the same positions. It fails only where memory runs out.
     #[cycle(copy)]
     pub fn copy(&self, alloc: Global) -> Result<Ty, AllocError>
         ensures { IfOk result (λ ty. ty ≡ self.now) }
@@ -216,7 +216,7 @@ fn is_same_result(one: &Option<Boxed<Ty>>, other: &Option<Boxed<Ty>>) -> bool
     }
 }
 
-/// What is hashed where no more types come. What is hashed of a type begins with another number.
+/// The number that is hashed where no more types come. What is hashed of a type begins with another number.
 const END: u8 = 4;
 
 impl Hash for Ty {

@@ -1,5 +1,6 @@
-//! The flat program as types: bodies of numbered blocks, whose steps work on numbered variables and whose exits name the next
-//! block. It stands between the typed tree, which nests, and a module's functions, which suspend and are resumed.
+//! The control-flow graph (CFG) of a program, as types: bodies of numbered basic blocks, whose operations work on numbered variables and
+//! whose terminators name the next block. It comes between the typed AST, which nests, and a module's functions, which suspend and are
+//! resumed.
 #![tactic(auto)]
 
 mod body;

@@ -1,4 +1,4 @@
-//! Steps and exits.
+//! Operations and terminators.
 
 use crate::call::{CallOperand, CallOperation, FaultExit, Handler};
 use sa_ast::FaultKind;
@@ -7,16 +7,16 @@ use sqlite_items::Items;
 /// A constant.
 #[derive(Clone, Copy, Debug, PartialEq, Eq, Hash)]
 pub enum Constant {
-    /// The void value of a type.
+    /// The void value of the type at this index.
     Void(u32),
     Int(i32),
     Bool(bool),
     Char(u8),
-    /// A text by its place in the program's texts.
+    /// The text at this index of the program's texts.
     Text(u32),
 }
 
-/// A step on the variables of a body. `to` is the variable that gets what the step gives.
+/// An operation on the variables of a body. `to` is the variable that gets the result.
 #[derive(Drop)]
 pub enum CfgOperation {
     Const {
@@ -27,7 +27,7 @@ pub enum CfgOperation {
         to: u32,
         from: u32,
     },
-    /// The body's own object.
+    /// The body's `self`.
     SelfRef {
         to: u32,
     },
@@ -37,58 +37,58 @@ pub enum CfgOperation {
     },
     /// Spends a turn: a round of a loop, or the initialiser of a shared.
     Turn,
-    /// A new object. It may fail for want of room.
+    /// Makes a new object. It may fail for want of room.
     New {
         to: u32,
         ty: u32,
         fail: FaultExit,
     },
-    /// A new object with an array part of `count` elements. A negative count is a fault, want of room another.
+    /// Makes a new object with an array part of `count` elements. A negative count is a fault, want of room another.
     NewArray {
         to: u32,
         ty: u32,
         count: u32,
         fail: FaultExit,
     },
-    /// Puts an element of an array literal in its place, which can't fail.
+    /// Sets an element of an array literal at the index `at`, which can't fail.
     SetElement {
         array: u32,
         ty: u32,
         at: u32,
         value: u32,
     },
-    /// A value of the immutable class `ty` as it stands at an abstract type. It may fail for want of room.
+    /// Boxes a value of the immutable class `ty`, for an abstract type. It may fail for want of room.
     Box {
         to: u32,
         from: u32,
         ty: u32,
         fail: FaultExit,
     },
-    /// The value that a bind keeps for an argument whose type in the signature is the immutable class `ty`: widened where the
-    /// class of `recv` is one of `types`, whose implementations take the argument at an abstract type; else the value itself.
-    /// It may fail for want of room.
+    /// Makes the value that a bind stores for an argument whose type in the signature is the immutable class `ty`: the value boxed where
+    /// the class of `recv` is one of `types`, whose implementations take the argument at an abstract type, otherwise the value itself. It
+    /// may fail for want of room.
     BoxFor {
         to: u32,
         from: u32,
         ty: u32,
         recv: u32,
-        /// Rising.
+        /// The indices of these types, rising.
         types: Items<u32>,
         fail: FaultExit,
     },
-    /// A widened value as it stands at its own class `ty`.
+    /// Unboxes a boxed value of the immutable class `ty`.
     Unbox {
         to: u32,
         from: u32,
         ty: u32,
     },
-    /// Whether the class of the value is `ty` or below it. It is false for void.
+    /// Tests whether the class of the value is `ty` or a subtype of it. The result is false for void.
     TypeIs {
         to: u32,
         from: u32,
         ty: u32,
     },
-    /// The value of a raise, which must not be void.
+    /// Checks that the value of a raise isn't void: a void one is a fault.
     CheckNotVoid {
         from: u32,
         fail: FaultExit,
@@ -100,17 +100,17 @@ pub enum CfgOperation {
     Call {
         plan: CallOperation,
     },
-    /// Makes a bound value of the entry from the receiver and the arguments that are given.
+    /// Makes a bound value with the layout at the index `entry`, from the receiver and the arguments that are given.
     Bind {
         plan: CallOperation,
         entry: u32,
     },
-    /// Whether the site has an instance.
+    /// Tests whether the site has an instance.
     HasInstance {
         to: u32,
         site: u32,
     },
-    /// Starts an instance at the site. `quit` tells afterwards whether it has ended.
+    /// Starts an instance at the site. Afterwards `quit` is true where it has ended.
     Start {
         site: u32,
         plan: CallOperation,
@@ -122,13 +122,12 @@ pub enum CfgOperation {
         plan: CallOperation,
         quit: u32,
     },
-    /// In a body that was made for an implementation by an iter: whether the instance that it is entered for has a frame
-    /// already, so that it is resumed.
+    /// In an adapter of an iter: tests whether the instance for which it is entered has a frame already, so that it is resumed.
     HasFrame {
         to: u32,
     },
-    /// In a body that was made for an implementation by an iter: at a start takes the instance's frame, and runs the iter's
-    /// body on that frame. `recv` is the instance's own object, which is read at a start alone.
+    /// In an adapter of an iter: at a start makes the instance's frame, and runs the iter's body on that frame. `recv` is the instance's
+    /// `self`, which is read at a start alone.
     Enter {
         body: u32,
         recv: u32,
@@ -136,11 +135,11 @@ pub enum CfgOperation {
         value: Option<u32>,
         quit: u32,
     },
-    /// Ends the instances of the sites in this order, with those inside them.
+    /// Ends the instances at the sites in this order, with those inside them.
     Release {
         sites: Items<u32>,
     },
-    /// Sets the variables of a raise by the statement `raise` at a place.
+    /// Sets the variables of a handler as the statement `raise` does. `place` is the index of its position.
     SetException {
         value: u32,
         place: u32,
@@ -148,7 +147,7 @@ pub enum CfgOperation {
     },
 }
 
-/// What comes behind the steps of a block.
+/// The terminator of a block: what comes after its operations.
 #[derive(Clone, Copy, Debug, PartialEq, Eq, Hash)]
 pub enum Terminator {
     Jump(u32),
@@ -158,25 +157,25 @@ pub enum Terminator {
         yes: u32,
         no: u32,
     },
-    /// Leaves the body with this value, and copies arguments back.
+    /// Leaves the body with this value, and copies arguments out.
     Return {
         value: Option<u32>,
     },
-    /// Yields this value, copies arguments back, and goes on in `resume` when the instance is resumed. A body that was made
-    /// for an implementation alone has no block of its own to go on in.
+    /// Yields this value, copies arguments out, and goes on in `resume` when the instance is resumed. An adapter has no block of its own in
+    /// which it goes on.
     Suspend {
         value: Option<u32>,
         resume: Option<u32>,
     },
     /// Ends the instance.
     Quit,
-    /// Leaves the body with a raise.
+    /// Leaves the body with a raise. `place` is the index of its position.
     Raise {
         value: u32,
         place: u32,
         kind: u32,
     },
-    /// A fault.
+    /// A fault of a statement.
     Fault {
         kind: FaultKind,
         fail: FaultExit,

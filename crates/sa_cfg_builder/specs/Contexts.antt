@@ -1,4 +1,4 @@
--- Where a place of a body is, as the types see it.
+-- The context of a statement, as the typing rules see it.
 use Rattle.std.specs.Prelude.{option_map}
 use Rattle.sa_cfg_builder.specs.declared.context.LoweringContext.{LoweringContext}
 use Rattle.sa_typing.specs.declared.context.TypingContext.{TypingContext}

@@ -1,14 +1,14 @@
-//! The piece of a bind at the end of the open block.
+//! The fragment for a bind, at the end of the open block.
 
 use crate::builder::ProgramBuilder;
-use sa_ast::NoMemory;
+use failure::Failure;
 use sa_cfg::{BoundLayout, CallOperand, CallOperation, CallTarget, CfgOperation};
 use sqlite_items::Items;
 use std::alloc::Global;
 
 impl ProgramBuilder {
-    /// Makes a value of the bound type `ty` from the receiver and the arguments that are given.
-    pub fn bind(&mut self, alloc: Global, plan: CallOperation, ty: u32) -> Result<(), NoMemory> {
+    /// Adds an operation that makes a value of the bound type `ty` from the receiver and the arguments that are given.
+    pub fn bind(&mut self, alloc: Global, plan: CallOperation, ty: u32) -> Result<(), Failure> {
         let entry = self.tables.bind(BoundLayout {
             ty,
             callee: plan.callee,
@@ -27,8 +27,8 @@ fn class_of(plan: &CallOperation) -> u32 {
     }
 }
 
-/// For each argument whether it is left open.
-fn open(alloc: Global, args: &[CallOperand]) -> Result<Items<bool>, NoMemory> {
+/// For each argument, whether it is left open.
+fn open(alloc: Global, args: &[CallOperand]) -> Result<Items<bool>, Failure> {
     let mut open = Items::new(alloc);
     for arg in args {
         open.push(arg.var.is_none())?;

@@ -1,11 +1,11 @@
-//! The tables of the program and the body that is being filled, as one value that lowering changes.
+//! The tables of the program and the body that is being built, as one value that lowering changes.
 
 use crate::body::{BodyBuilder, BodyHeader};
 use crate::tables::Tables;
-use sa_ast::NoMemory;
+use failure::Failure;
 use std::alloc::Global;
 
-/// The tables of the program so far, and the body that is being filled.
+/// The builder of a program: its tables so far, and the body that is being built.
 #[derive(Drop)]
 pub struct ProgramBuilder {
     pub tables: Tables,
@@ -21,8 +21,8 @@ impl ProgramBuilder {
         }
     }
 
-    /// Begins a body, as `BodyBuilder::begin` says, and drops the one that was there.
-    pub fn begin(&mut self, alloc: Global, head: BodyHeader) -> Result<(), NoMemory> {
+    /// Begins a body, as `BodyBuilder::begin` says, and drops the former one.
+    pub fn begin(&mut self, alloc: Global, head: BodyHeader) -> Result<(), Failure> {
         self.body = BodyBuilder::begin(alloc, head)?;
         Ok(())
     }

@@ -1,5 +1,5 @@
-//! What is around a place of a body. It is handed down from a statement to those inside it, so that nothing has to be put back
-//! behind them.
+//! The context of a statement in a body. It is passed down from a statement to those inside it, so that nothing has to be restored after
+//! them.
 
 ghost use Rattle.std.specs.Prelude.{◌≡◌, IsTrue, is_some};
 ghost use Rattle.sa_cfg_builder.specs.Contexts.{context_of};
@@ -7,7 +7,7 @@ ghost use Rattle.sa_typing.specs.Contexts.{outside};
 
 use sa_cfg::{FIRST_TEMPORARY, Handler, UNWIND_BLOCK};
 
-/// Where a raise goes that leaves the body. Its variables are the first temporaries.
+/// The handler of a raise that leaves the body. Its variables are the first temporaries.
 const UNWINDING: Handler = Handler {
     block: UNWIND_BLOCK,
     value: FIRST_TEMPORARY,
@@ -15,44 +15,44 @@ const UNWINDING: Handler = Handler {
     kind: FIRST_TEMPORARY + 2,
 };
 
-/// The ways out of the innermost loop.
+/// The exits of the innermost loop.
 #[derive(Clone, Copy, Debug, PartialEq, Eq)]
 pub struct LoopExits {
-    /// The loop's number.
+    /// The index of the loop.
     pub number: u32,
-    /// Where leaving the loop goes: the block that ends its instances, or the one behind it where it has no sites.
+    /// The block to which leaving the loop goes: the one that ends its instances, or the one after the loop where it has no sites.
     pub after: u32,
-    /// The block that ends the instances of the loop and of those around it and then leaves the body, where one of these loops
+    /// The block that ends the instances of the loop and of those that enclose it and then leaves the body, where one of these loops
     /// has sites.
     pub out: Option<u32>,
 }
 
-/// The exception of a branch: the variable that holds it, and the number of its type.
+/// The exception that a branch caught: the variable that holds it, and the index of its type.
 #[derive(Clone, Copy, Debug, PartialEq, Eq)]
 pub struct CaughtException {
     pub var: u32,
     pub ty: u32,
 }
 
-/// What is around a place of a body.
+/// The context of a statement or an expression in a body.
 #[derive(Clone, Copy, Debug, PartialEq, Eq)]
 pub struct LoweringContext {
-    /// Where a raise goes.
+    /// The handler to which a raise goes.
     pub raised: Handler,
-    /// The ways out of the innermost loop, where a loop is around the place. What the loops around that one decide is in them.
+    /// The exits of the innermost loop, inside a loop. What the loops around that one decide is in them.
     pub innermost: Option<LoopExits>,
-    /// Whether a protect stands between the place and this loop.
+    /// Whether there is a protect between the statement and this loop.
     pub guarded: bool,
-    /// Whether a protect is around the place.
+    /// Whether the statement is inside a protect.
     pub protected: bool,
-    /// The exception of the innermost branch of a protect, where one is around the place.
+    /// The exception of the innermost branch of a protect, inside a branch.
     pub exception: Option<CaughtException>,
     /// The first temporary of each statement. Those before it hold what has to outlive the statement.
     pub first_temporary: u32,
 }
 
 impl LoweringContext {
-    /// Around the statements of a body: a raise leaves it.
+    /// The context of the statements of a body: a raise leaves the body.
     pub fn of_body() -> LoweringContext
         ensures { context_of result ≡ outside }
     {
@@ -66,7 +66,7 @@ impl LoweringContext {
         }
     }
 
-    /// Where leaving the innermost loop goes.
+    /// The block to which leaving the innermost loop goes.
     pub fn after(&self) -> u32
         requires { IsTrue (is_some self.now.innermost) }
     {
@@ -76,7 +76,7 @@ impl LoweringContext {
         }
     }
 
-    /// The block that ends the instances of the loops around the place and then leaves the body, if one of them has sites.
+    /// The block that ends the instances of the loops around the statement and then leaves the body, if one of them has sites.
     pub fn out(&self) -> Option<u32> {
         match self.innermost {
             Some(innermost) => innermost.out,

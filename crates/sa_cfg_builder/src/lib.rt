@@ -1,5 +1,5 @@
-//! What lowering fills: the tables of the program, and the body that is being filled, with the pieces of iters, raises and bound
-//! values. What is around a place of a body is a value that is handed down.
+//! The builder that lowering fills: the tables of the program, and the body that is being built, with the fragments for iters, raises and
+//! bound values. The context of a statement is a value that is passed down.
 #![tactic(auto)]
 
 mod binds;

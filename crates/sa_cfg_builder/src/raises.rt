@@ -1,8 +1,8 @@
-//! The pieces of raises at the end of the open block, and the test of a class, by which a branch is chosen.
+//! The fragments for raises, at the end of the open block, and the test of a class, which dispatches to a branch.
 
 use crate::body::BodyBuilder;
 use crate::context::LoweringContext;
-use sa_ast::NoMemory;
+use failure::Failure;
 use sa_cfg::{CfgOperation, Handler, Terminator};
 use std::alloc::Global;
 
@@ -14,20 +14,20 @@ pub struct ClassTest {
 }
 
 impl BodyBuilder {
-    /// Hands the raise that has come to a block on to what is around the place. Nothing leads to the block that is open then.
+    /// Passes the raise that has come to a block on to the handler of the context. The block that is open then is unreachable.
     pub fn forward_raise(
         &mut self,
         alloc: Global,
         from: Handler,
         to: Handler,
-    ) -> Result<(), NoMemory> {
+    ) -> Result<(), Failure> {
         self.move_to(to.value, from.value)?;
         self.move_to(to.place, from.place)?;
         self.move_to(to.kind, from.kind)?;
         self.leave(alloc, Terminator::Jump(to.block))
     }
 
-    /// Goes on in the block of the first branch whose type holds the class of the object, or in `rest`, which is open then.
+    /// Goes on in the block of the first branch whose type is a supertype of the object's class, or in `rest`, which is open then.
     pub fn choose_arm(
         &mut self,
         alloc: Global,
@@ -35,7 +35,7 @@ impl BodyBuilder {
         value: u32,
         arms: &[ClassTest],
         rest: u32,
-    ) -> Result<(), NoMemory> {
+    ) -> Result<(), Failure> {
         let Some((last, others)) = arms.split_last() else {
             return self.end(alloc, Terminator::Jump(rest), rest);
         };
@@ -48,15 +48,15 @@ impl BodyBuilder {
         self.end(alloc, exit, rest)
     }
 
-    /// Tests the class of a value, and gives the exit that goes on in the block of the branch where its type holds the class, else
-    /// in `other`.
+    /// Tests the class of a value, and gives the terminator that goes on in the block of the branch where its type is a supertype of the
+    /// class, otherwise in `other`.
     pub fn test_class(
         &mut self,
         inside: &LoweringContext,
         value: u32,
         arm: ClassTest,
         other: u32,
-    ) -> Result<Terminator, NoMemory> {
+    ) -> Result<Terminator, Failure> {
         self.statement(inside);
         let test = self.temporary()?;
         self.step(CfgOperation::TypeIs {

@@ -1,4 +1,4 @@
-//! The different texts of a program, each with its number.
+//! The different texts of a program, each with its index.
 //!
 //! A program may use a text of a million bytes often. So a text is found by its length and its two ends, and the rest of it is read
 //! only to compare it with the one that is found.
@@ -8,8 +8,9 @@ ghost use Rattle.std.specs.Prelude.{◌≡◌};
 ghost use Rattle.std.specs.Cmp.Rules.{hashing};
 ghost use Rattle.sa_cfg_builder.specs.Texts.{back, front, literal_writes};
 
+use failure::{Failure, Invariant, known};
 use indexmap::IndexSet;
-use sa_ast::{Name, NoMemory, held};
+use sa_ast::Name;
 use sqlite_items::Items;
 use std::alloc::Global;
 use std::hash::{Hash, Hasher};
@@ -55,7 +56,7 @@ fn back_of(bytes: &[u8]) -> &[u8]
     back
 }
 
-/// The different texts so far, in the order in which they came.
+/// The pool of the different texts so far, in the order in which they came.
 #[derive(Drop)]
 pub struct TextPool {
     literals: IndexSet<Literal>,
@@ -68,15 +69,15 @@ impl TextPool {
         }
     }
 
-    /// The number of a text, which is added where it is new.
-    pub fn number(&mut self, alloc: Global, text: &Name) -> Result<u32, NoMemory> {
+    /// The index of a text, which is added where it is new.
+    pub fn number(&mut self, alloc: Global, text: &Name) -> Result<u32, Failure> {
         let text = text.copy(alloc)?;
         let (at, _) = self.literals.insert_full(Literal { text })?;
-        held(u32::try_from(at).ok())
+        known(u32::try_from(at).ok(), Invariant::CheckedCount)
     }
 
-    /// The texts in the order of their numbers.
-    pub fn in_order(self, alloc: Global) -> Result<Items<Name>, NoMemory> {
+    /// The texts in the order of their indices.
+    pub fn in_order(self, alloc: Global) -> Result<Items<Name>, Failure> {
         let mut texts = Items::new(alloc);
         for Literal { text } in self.literals {
             texts.push(text)?;

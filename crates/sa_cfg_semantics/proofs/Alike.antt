@@ -1,5 +1,5 @@
--- Two steps that are put together alike, of which the one runs what follows to a level, and the other to a greater one. The
--- law of all steps is shown once for each way of putting steps together.
+-- Two steps that are composed alike, of which the one runs what follows to a level, and the other to a greater one. The law of all steps is
+-- shown once for each way of composing steps.
 use Rattle.std.proofs.Common.{◌≡◌, ℕ, zero, suc, ◌-◌, ◌≤◌, nat_le, Bool, true, false, if◌then◌else◌, List, slice_get, Option, Some, None, refl, ap, ◌∙◌, arith}
 use Rattle.sa_semantics.specs.Sequence.{resolve_outcome, resolve, ◌>>=◌, ◌>>◌, stop, pure, look, change, or_stuck, at_index, Normal, Abrupt, OutOfTurns, stuck, GoesWrong, with_index}
 use Rattle.sa_semantics.specs.State as language
@@ -11,12 +11,12 @@ pub data AlikeIn : ℕ → (A : Type 0) → Eval A → Eval A → Type 1 where
   resolves : {level : ℕ} {A B : Type 0} {f g : Eval A} {h i : A → Eval B} {k l : Cause → Eval B} → AlikeIn level A f g → ((a : A) → AlikeIn level B (h a) (i a)) → ((c : Cause) → AlikeIn level B (k c) (l c)) → AlikeIn level B (resolve f h k) (resolve g i l)
   stops : {level : ℕ} {A : Type 0} (c : Cause) → AlikeIn level A (stop c) (stop c)
   sticks : {level : ℕ} {A : Type 0} → AlikeIn level A stuck stuck
-  -- what counts no step
+  -- a step that counts no CFG step
   moves : {level : ℕ} {A : Type 0} (see : State → A) (next : State → State) → ((s : State) → (next s).steps ≡ s.steps) → AlikeIn level A (λ s. Normal (see s) (next s)) (λ s. Normal (see s) (next s))
   turns : {level : ℕ} {A : Type 0} {f g : Eval A} → AlikeIn level A f g → AlikeIn level A (turn f) (turn g)
   sees : {level : ℕ} {A : Type 0} (f : language_steps.Eval A) → AlikeIn level A (λ s. lifted s (f s.world)) (λ s. lifted s (f s.world))
   counts : {level : ℕ} (n : ℕ) → AlikeIn level (Unit {0}) (count n) (count n)
-  -- the step after which what is run to a level follows
+  -- a counted step, and then what is run to a level
   first : {level : ℕ} {A : Type 0} {f g : Eval A} → AlikeIn level A f g → AlikeIn (suc level) A (count 1 >> f) (count 1 >> g)
   -- the level 0
   ends : {A : Type 0} (g : Eval A) → AlikeIn zero A stuck (count 1 >> g)
@@ -27,7 +27,7 @@ Alike level f g = AlikeIn level _ f g
 abbrev pub Steady : {A : Type 0} → ℕ → Eval A → Type 1
 Steady level f = AlikeIn level _ f f
 
--- ---- ways of putting steps together
+-- ---- ways of composing steps
 
 pub alike_resolve : {level : ℕ} {A B : Type 0} {f g : Eval A} {h i : A → Eval B} {k l : Cause → Eval B} → Alike level f g → ((a : A) → Alike level (h a) (i a)) → ((c : Cause) → Alike level (k c) (l c)) → Alike level (resolve f h k) (resolve g i l)
 alike_resolve a b c = resolves a b c
@@ -72,9 +72,9 @@ pub steady_within : {level : ℕ} {A : Type 0} (f : language_steps.Eval A) → S
 unfolding lift
 steady_within f = sees f
 
--- ---- with as many levels as steps are left, or more
+-- ---- with as many levels as CFG steps are left, or more
 
--- no step is added
+-- no CFG step is added
 abbrev pub Falls : {A : Type 0} → ℕ → Outcome A → Type 0
 Falls n (Normal a s) = s.steps ≤ n
 Falls n (Abrupt c s) = s.steps ≤ n
@@ -108,7 +108,7 @@ falls_if : {A : Type 0} (b : Bool) (n : ℕ) (o q : Outcome A) → Falls n o →
 falls_if true n o q x y = x
 falls_if false n o q x y = y
 
--- the state behind a step of the language that leads to a world
+-- the state after a step of the language that leads to a world
 abbrev following : State → language.State → State
 following s w = record s { world = w; steps = s.steps - (s.world.turns - w.turns) }
 
@@ -140,7 +140,7 @@ stuck_first : {A : Type 0} (k : ℕ) (s : State) (g : Eval A) → k ≤ 0 → re
 stuck_first zero s g few = refl
 stuck_first (suc n) s g few = absurd (omega (arith, few))
 
--- Where no more steps are left than the level, the greater one gives the same.
+-- Where no more CFG steps are left than the level, the greater one gives the same.
 pub keeps : {level : ℕ} {A : Type 0} {f g : Eval A} → AlikeIn level A f g → (s : State) → s.steps ≤ level → Keeps s (f s) (g s)
 unfolding resolve
 keeps (resolves {level = level} {f = f} {g = g} {h = h} {i = i} {k = k} {l = l} a b c) s few = keeps_resolved level s (f s) (g s) few (keeps a s few) h i k l (λ x t less. keeps (b x) t less) (λ x t less. keeps (c x) t less)

@@ -1,4 +1,4 @@
--- What goes through calls is alike where what runs bodies is.
+-- Calls are alike where the runs of bodies are.
 use Rattle.std.proofs.Common.{ℕ, Bool, true, false, List, [], ◌∷◌, Option, Some, None, refl}
 use Rattle.sa_ast.specs.declared.fault_kind.FaultKind.{FaultKind}
 use Rattle.sa_ast.specs.declared.ty.Mode.{Mode}
@@ -96,7 +96,7 @@ pub steady_all_passed : {level : ℕ} (through : Option ℕ) (given : List Passe
 steady_all_passed None given = steady_pure _
 steady_all_passed (Some object) given = alike_then (steady_within _) (λ o. alike_then (steady_or_stuck _) (λ b. steady_or_stuck _))
 
--- ---- what a call reaches
+-- ---- what a call resolves to
 
 module _ (p : CfgProgram) (rows : List (List ℕ)) where
   steady_implementation : {level : ℕ} (k : ℕ) (v : Value) → Steady level (implementation p rows k v)

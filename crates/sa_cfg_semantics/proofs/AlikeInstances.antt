@@ -1,4 +1,4 @@
--- What goes through instances is alike where what runs bodies is.
+-- Instances are alike where the runs of bodies are.
 use Rattle.std.proofs.Common.{ℕ, zero, suc, ◌+◌, List, [], ◌∷◌, Option, Some, None, refl}
 use Rattle.sa_cfg.specs.declared.body.CfgBody.{CfgBody}
 use Rattle.sa_cfg.specs.declared.call.CallTarget.{CallTarget}

@@ -1,5 +1,5 @@
--- Steps, exits and runs from a place are alike where what follows is; so a run has levels enough where these are no fewer than
--- the steps that are left.
+-- Operations, terminators and runs from an index in a block are alike where what follows is; so a run has levels enough where these are no
+-- fewer than the CFG steps that are left.
 use Rattle.std.proofs.Common.{ℕ, zero, suc, ◌+◌, ◌≤◌, List, slice_get, Option, Some, None, arith}
 use Rattle.sa_cfg.specs.declared.body.BasicBlock.{BasicBlock}
 use Rattle.sa_cfg.specs.declared.program.CfgProgram.{CfgProgram}
@@ -20,7 +20,7 @@ use Rattle.sa_cfg_semantics.proofs.Alike.{Alike, Steady, counts, turns, first, e
 use Rattle.sa_cfg_semantics.proofs.AlikeCalls.{steady_if_abstract, steady_read, steady_write, steady_this, steady_fault, alike_guarded, alike_call, steady_bind}
 use Rattle.sa_cfg_semantics.proofs.AlikeInstances.{steady_frame_at, steady_set_frame, steady_entry_at, steady_release_all, alike_start, alike_resume, alike_enter_iter}
 
--- ---- steps
+-- ---- operations
 
 steady_give : {level : ℕ} (to : ℕ) {f : Eval Value} → Steady level f → Steady level (give to f)
 steady_give to a = alike_before (alike_then a (λ v. steady_write to v)) (steady_pure _)
@@ -92,7 +92,7 @@ module _ (p : CfgProgram) (rows : List (List ℕ)) (level : ℕ) (go to : ℕ �
   alike_step (Release sites) = alike_before (steady_release_all p sites) (steady_pure _)
   alike_step (SetException value place x) = alike_then (steady_read value) (λ v. alike_before (steady_write _ _) (alike_before (steady_write _ _) (alike_before (steady_write _ _) (steady_pure _))))
 
--- ---- exits
+-- ---- terminators
 
 steady_value_of : {level : ℕ} (value : Option ℕ) → Steady level (value_of value)
 steady_value_of None = steady_pure _
@@ -120,7 +120,7 @@ module _ (p : CfgProgram) where
   steady_exit (Raise value place kind) = alike_then (steady_read value) (λ v. alike_then (steady_number_in place) (λ at. alike_then (steady_number_in kind) (λ k. steady_pure _)))
   steady_exit (Fault kind fail) = steady_fault p fail kind
 
--- ---- runs from a place
+-- ---- runs from an index in a block
 
 steady_this_block : {level : ℕ} (p : CfgProgram) (block : ℕ) → Steady level (this_block p block)
 steady_this_block p block = alike_then steady_this (λ here. alike_then (steady_or_stuck _) (λ b. steady_or_stuck _))

@@ -52,12 +52,12 @@ deep : cfg_run sample.deep [] no_input 0 20000 ≡ Stopped [] 10 here
 unfolding outcome resolve or_stuck lift digits
 deep = refl
 
--- 8 bytes for the object, and 16 for the INT that stands at $OB
+-- 8 bytes for the object, and 16 for the INT that is boxed for $OB
 widening : cfg_run sample.boxing one_implementation no_input 24 1000 ≡ Ended (codes "7") 0
 unfolding outcome resolve or_stuck lift digits
 widening = refl
 
--- The body that was made for the implementation hands the fault on.
+-- The adapter passes the fault on.
 widening_past_room : cfg_run sample.boxing one_implementation no_input 23 1000 ≡ Stopped [] 9 here
 unfolding outcome resolve or_stuck lift digits
 widening_past_room = refl
@@ -79,7 +79,7 @@ choosing_void : cfg_run sample.choosing_void one_implementation no_input 0 1000 
 unfolding outcome resolve or_stuck lift digits
 choosing_void = refl
 
--- 8 bytes for the object, 16 for the INT that is kept at $OB, and 24 for the bound value; the calls widen nothing
+-- 8 bytes for the object, 16 for the INT that is stored as a $OB, and 24 for the bound value; the calls box nothing
 keeping : cfg_run sample.keeping one_implementation no_input 48 1000 ≡ Ended (codes "77") 0
 unfolding outcome resolve or_stuck lift digits
 keeping = refl
@@ -111,17 +111,17 @@ widening_iter : end sample.boxing_iter ≡ Ended (codes "012") 0
 unfolding outcome resolve or_stuck lift digits
 widening_iter = refl
 
--- each run of the instance goes through the body that was made for the implementation
+-- each run of the instance goes through the adapter
 widening_iter_trail : trail sample.boxing_iter one_implementation no_input 24 4 ≡ Enter 3 ∷ Enter 0 ∷ Enter 2 ∷ Enter 1 ∷ Leave 1 ∷ Leave 2 ∷ Byte 48 ∷ []
 unfolding outcome resolve or_stuck lift digits
 widening_iter_trail = refl
 
--- the third value finds no room to be widened
+-- there is no room to box the third value
 widening_iter_past_room : cfg_run sample.boxing_iter one_implementation no_input 55 1000 ≡ Stopped (codes "01") 9 here
 unfolding outcome resolve or_stuck lift digits
 widening_iter_past_room = refl
 
--- 8 bytes for the object, and 16 for the INT that stands at $OB; the resumptions widen nothing
+-- 8 bytes for the object, and 16 for the INT that is boxed for $OB; the resumptions box nothing
 widening_once : cfg_run sample.boxing_once one_implementation no_input 24 1000 ≡ Ended (codes "12") 0
 unfolding outcome resolve or_stuck lift digits
 widening_once = refl

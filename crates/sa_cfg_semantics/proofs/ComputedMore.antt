@@ -24,7 +24,7 @@ end p = cfg_run p one_implementation no_input 65536 1000
 
 -- ---- initialisers
 
--- 16 bytes for the P that is widened, and turns as in the typed program
+-- 16 bytes for the P that is boxed, and turns as in the typed program
 initialises : cfg_run sample.initialises [] no_input 16 4 ≡ Ended (codes "1P") 0
 unfolding outcome resolve or_stuck lift digits
 initialises = refl
@@ -44,7 +44,7 @@ joining_past_room : cfg_run sample.joining [] no_input 31 1000 ≡ Stopped [] 9 
 unfolding outcome resolve or_stuck lift digits
 joining_past_room = refl
 
--- two steps in the last body, two in `main`, and the three turns of the text
+-- two CFG steps in the last body, two in `main`, and the three turns of the text
 joining_past_room_steps : (last_state (outcome sample.joining [] no_input 31 1000)).steps ≡ most_steps 1000 - 7
 unfolding outcome resolve or_stuck lift digits
 joining_past_room_steps = refl
@@ -58,13 +58,13 @@ joining_spent_steps : (last_state (outcome sample.joining [] no_input 32 3)).ste
 unfolding outcome resolve or_stuck lift digits
 joining_spent_steps = refl
 
--- ---- widening
+-- ---- boxing
 
 two_stages : cfg_run sample.boxing_in_two_stages one_implementation no_input 40 1000 ≡ Ended (codes "12") 0
 unfolding outcome resolve or_stuck lift digits
 two_stages = refl
 
--- as in the typed program, the variables that get values are void yet where the room is passed, and as much room is left
+-- as in the typed program, the variables that get values are still void where the room is exceeded, and as much room is left
 two_stages_past_room : cfg_run sample.boxing_in_two_stages one_implementation no_input 39 1000 ≡ Stopped [] 9 here
 unfolding outcome resolve or_stuck lift digits
 two_stages_past_room = refl
@@ -95,7 +95,7 @@ passes_no_room : end (sample.catching_stop fault_kind.NoRoom) ≡ Stopped [] 9 h
 unfolding outcome resolve or_stuck lift digits
 passes_no_room = refl
 
--- ---- steps that contradict their own numbers
+-- ---- operations that contradict their own numbers
 
 calls : end sample.calls ≡ Ended (codes "1") 0
 unfolding outcome resolve or_stuck lift digits
@@ -147,6 +147,6 @@ resumes_other = refl
 
 -- ---- bound values
 
--- the body that was made for the implementation stands for it
+-- the adapter is that of the implementation
 keeping_target : source_target keeping sample.one_signature (target.Feature 2) ≡ Some (target.Feature 1)
 keeping_target = refl

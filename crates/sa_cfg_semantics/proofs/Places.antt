@@ -1,4 +1,4 @@
--- A run from a place begins with what stands there.
+-- A run from an index in a block begins with what is there.
 use Rattle.std.proofs.Common.{◌≡◌, ℕ, ◌-◌, nat_le, Bool, true, false, if◌then◌else◌, List, slice_get, Option, Some, None, refl, ap, ◌∙◌}
 use Rattle.sa_cfg.specs.declared.body.BasicBlock.{BasicBlock}
 use Rattle.sa_cfg.specs.declared.program.CfgProgram.{CfgProgram}
@@ -32,7 +32,7 @@ module _ (p : CfgProgram) (rows : List (List ℕ)) (level : ℕ) where
       ap (λ o. resolve_outcome o (λ b. run_next p rows (run_from p rows level) b (slice_get b.steps place) >>= next (run_from p rows level) block place) stop) (found_block p block b s h)
       ∙ ap (λ a. (run_next p rows (run_from p rows level) b a >>= next (run_from p rows level) block place) s) e
 
--- with a step less
+-- with one CFG step less
 abbrev after_one : State → State
 after_one s = record s { steps = s.steps - 1 }
 

@@ -1,4 +1,4 @@
--- What stands at a place of a body.
+-- What is at an index of a block.
 use Rattle.std.specs.Prelude.{◌≡◌, ℕ, slice_get, Some, None}
 use Rattle.sa_cfg.specs.declared.body.BasicBlock.{BasicBlock}
 use Rattle.sa_cfg.specs.declared.body.CfgBody.{CfgBody}
@@ -12,10 +12,10 @@ pub record HasBlock (p : CfgProgram) (body block : ℕ) (found : BasicBlock) : T
   pub body_is : slice_get p.bodies body ≡ Some within
   pub block_is : slice_get within.blocks block ≡ Some found
 
--- the step of a body behind so many others of its block
+-- the operation after so many others of its block
 abbrev pub HasOperation : CfgProgram → ℕ → ℕ → ℕ → CfgOperation → Type 0
 HasOperation p body block place a = (b : BasicBlock) × HasBlock p body block b × (slice_get b.steps place ≡ Some a)
 
--- the exit behind all steps of a block
+-- the terminator after all operations of a block
 abbrev pub HasTerminator : CfgProgram → ℕ → ℕ → ℕ → Terminator → Type 0
 HasTerminator p body block place e = (b : BasicBlock) × HasBlock p body block b × (slice_get b.steps place ≡ None) × (b.exit ≡ e)

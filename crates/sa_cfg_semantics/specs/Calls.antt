@@ -1,4 +1,4 @@
--- What a call reaches, what it hands over and copies back, the run of a body, and what a bound value keeps.
+-- What a call resolves to, what it passes and copies out, the run of a body, and what a bound value stores.
 use Rattle.std.specs.Prelude.{ℕ, ◌+◌, ◌-◌, Bool, true, false, not, ◌&&◌, ◌==◌, nat_le, if◌then◌else◌, List, [], ◌∷◌}
 use Rattle.std.specs.Prelude.{◌++◌, map, length, drop, replicate, filter_map, Option, Some, None, is_some, option_map}
 use Rattle.std.specs.Option.{option_map_or}
@@ -32,10 +32,9 @@ use Rattle.sa_cfg_semantics.specs.Frames.{Activation, BodyResult, Returned, Rais
 use Rattle.sa_cfg_semantics.specs.Counting.{Eval, turn, types_of, nowhere, lift, if_abstract, read, put, put_result, this, enter, leave}
 use Rattle.sa_cfg_semantics.specs.Faults.{raised}
 
--- ---- what a call hands over
+-- ---- what a call passes
 
--- An argument that is handed over: its mode, which one that a bound value keeps hasn't, its value, and the variable that gets
--- one back.
+-- An operand that is passed: its mode (one that a bound value stores has none), its value, and the variable that gets one back.
 pub record PassedOperand : Type 0 where
   pub mode : Option Mode
   pub value : Option Value
@@ -86,7 +85,7 @@ is_saved_mode mode.In = true
 is_saved_mode mode.Once = true
 is_saved_mode _ = false
 
--- A bound value keeps values of `in` and `once` arguments.
+-- A bound value stores values of `in` and `once` arguments.
 abbrev pub fits : Option Mode → Mode → Bool
 fits None formal = is_saved_mode formal
 fits (Some m) formal = same_mode m formal
@@ -98,7 +97,7 @@ all_fit _ _ = false
 
 -- ---- bound values
 
--- what the call of a bound value reaches: a body of that number, or what the target says
+-- what the call of a bound value calls: the body at that index, or what the target says
 abbrev pub target_of : CallTarget → Option Target
 target_of (Body k) = Some (target.Feature k)
 target_of (Builtin f) = Some (target.Builtin f)
@@ -119,7 +118,7 @@ callee_of (target.SetShared k) = SetShared k
 abbrev pub saved_operand : Value → PassedOperand
 saved_operand v = record { mode = None; value = Some v; back = None }
 
--- The values that the bound value of a call keeps stand between those that are given, and nothing is copied back into them.
+-- The values that the bound value of a call stores come between those that are given, and nothing is copied out into them.
 abbrev pub with_saved_operands : Option ℕ → List PassedOperand → Eval (List PassedOperand)
 with_saved_operands None given = pure given
 with_saved_operands (Some object) given = do
@@ -127,13 +126,13 @@ with_saved_operands (Some object) given = do
   b ← or_stuck o.binding
   or_stuck (interleave b.is_open given (map saved_operand (drop 1 o.fields)))
 
--- ---- what a call reaches
+-- ---- what a call resolves to
 
 pub record ResolvedTarget : Type 0 where
   pub callee : CallTarget
   pub class : ℕ
   pub self : Value
-  -- the bound value through which it is reached
+  -- the bound value through which it is called
   pub through : Option ℕ
 
 module _ (p : CfgProgram) (rows : List (List ℕ)) where
@@ -172,18 +171,18 @@ modes_of b = map (λ f. f.mode) b.formals
 abbrev pub void_formals : CfgProgram → CfgBody → List Value
 void_formals p b = map (λ f. void_of (types_of p) f.ty) b.formals
 
--- Behind the arguments, each other variable is set before it is read.
+-- Each variable after the arguments is set before it is read.
 abbrev pub with_others : CfgBody → List Value → List Value
 with_others b arguments = arguments ++ replicate (width b - length b.formals) Void
 
--- at the entry, where what is handed over is what the arguments want by their modes
+-- at the entry, where what is passed is what the arguments want by their modes
 abbrev pub first_variables : CfgProgram → CfgBody → List PassedOperand → Eval (List Value)
 first_variables p b given =
     if all_fit given b.formals
     then or_stuck (option_map (with_others b) (fill_arguments (modes_of b) (void_formals p b) (values_of given)))
     else stuck
 
--- At a resumption the arguments that aren't `once` are set anew, and those that come out are void.
+-- At a resumption the arguments that aren't `once` are set anew, and `out` ones are void.
 abbrev pub variables_anew : CfgProgram → CfgBody → List PassedOperand → List Value → Eval (List Value)
 variables_anew p b given variables =
     if all_fit given b.formals then or_stuck (set_anew (modes_of b) (void_formals p b) variables (values_of given)) else stuck
@@ -204,18 +203,18 @@ gives_value OutPutChar = false
 gives_value ArefAset = false
 gives_value _ = true
 
--- a value of the class with this type: one of an immutable class isn't widened, and one of another may be void
+-- a value of the class with this type: one of an immutable class is unboxed, and one of another may be void
 abbrev pub is_of : CfgProgram → ℕ → Value → Option ℕ → Bool
 is_of p class v dynamic =
     if is_immutable (types_of p) class then is_unboxed class v else not (class == 0) && option_map_or (λ ty. ty == class) dynamic true
 
--- a step on a receiver of the class
+-- a step on a receiver, which is stuck where the receiver isn't of the class
 abbrev pub if_of : {A : Type 0} → CfgProgram → ℕ → Value → Eval A → Eval A
 if_of p class v f = lift (dynamic_type v) >>= (λ dynamic. if is_of p class v dynamic then f else stuck)
 
--- From a block and a place in it on, `go` runs a body.
+-- `go` runs a body, from a block and an index in it on.
 module _ (p : CfgProgram) (go : ℕ → ℕ → Eval BodyResult) where
-  -- how it ends, and its variables
+  -- the result of the body, and its variables
   abbrev pub run_body : ℕ → Activation → Eval (BodyResult × List Value)
   run_body block a = do
     caller ← this
@@ -229,7 +228,7 @@ module _ (p : CfgProgram) (go : ℕ → ℕ → Eval BodyResult) where
   routine k b self variables depth =
       record { body = k; self = self; variables = variables; sites = no_frames b; frame = None; station = None; depth = depth }
 
-  -- A body that was made for an implementation takes neither a turn nor depth.
+  -- An adapter takes neither a turn nor depth.
   abbrev pub call_in : Activation → ℕ → CfgBody → Value → List Value → Eval (BodyResult × List Value)
   call_in caller k b self variables =
       if is_some b.feature then turn (checked_depth caller >> run_body 0 (routine k b self variables (caller.depth + 1)))
@@ -242,7 +241,7 @@ module _ (p : CfgProgram) (go : ℕ → ℕ → Eval BodyResult) where
     variables ← first_variables p b given
     if b.iter then stuck else call_in caller k b self variables
 
-  -- the value of a step, where its callee gives one
+  -- the value of a step as the result of a body, where the callee gives one
   abbrev pub simply : Bool → Eval Value → Eval (BodyResult × List Value)
   simply gives f = f >>= (λ v. pure (Returned (if gives then Some v else None), []))
 
@@ -293,7 +292,7 @@ read_all (var ∷ more) = do
   vs ← read_all more
   pure (v ∷ vs)
 
--- The class is the one whose feature is called. The receiver is kept as that class has it.
+-- The class is the one whose feature is called. The receiver is stored as that class has it.
 abbrev pub bound_object : BoundLayout → Target → ℕ → Value → List Value → Object
 bound_object e t class receiver saved_operand = record {
   ty = e.ty;
@@ -303,12 +302,12 @@ bound_object e t class receiver saved_operand = record {
 }
 
 module _ (p : CfgProgram) (rows : List (List ℕ)) where
-  -- For a signature the receiver chooses what the bound value calls. The call of a bound value isn't bound.
+  -- For a signature the receiver chooses what the bound value calls. No bind is of the call of a bound value.
   abbrev pub resolve_bound : CallTarget → ℕ → Value → Eval ResolvedTarget
   resolve_bound Bound class v = stuck
   resolve_bound callee class v = resolve_target p rows callee class v
 
-  -- The entry says what is kept and called.
+  -- The layout says what is stored and called.
   abbrev pub bind : CallOperation → ℕ → Eval Transfer
   bind plan entry = do
     v ← read plan.recv

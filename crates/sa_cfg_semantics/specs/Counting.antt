@@ -1,4 +1,4 @@
--- What steps count, and what they take from the meaning of the language.
+-- What operations count, and what they take from the semantics of the language.
 use Rattle.std.specs.Prelude.{ℕ, zero, suc, ◌-◌, pos, true, false, nat_le, if◌then◌else◌, [], ◌∷◌, ◌++◌, map, Option, Some, None, is_some}
 use Rattle.sa_cfg.specs.declared.program.CfgProgram.{CfgProgram}
 use Rattle.sa_cfg.specs.declared.program.TypeLayout.{TypeLayout}
@@ -15,7 +15,7 @@ Eval A = Step State Cause A
 
 -- ---- what is counted
 
--- so many flat steps
+-- so many CFG steps
 abbrev pub count : ℕ → Eval (Unit {0})
 count n = λ s. if nat_le n s.steps then Normal tt (record s { steps = s.steps - n }) else GoesWrong s
 
@@ -27,9 +27,9 @@ take_turn (suc n) f s = f (record s { world = record (s.world) { turns = n } })
 abbrev pub turn : {A : Type 0} → Eval A → Eval A
 turn f = λ s. take_turn s.world.turns f s
 
--- ---- the meaning of the language
+-- ---- the semantics of the language
 
--- The types alone: the meaning of the language looks at nothing else here.
+-- The types alone: the semantics of the language reads nothing else here.
 abbrev pub type_row : TypeLayout → TypeRow
 type_row t = record { kind = t.kind; attrs = t.attrs; elem = t.elem; above = t.above; wide_args = []; wide = false }
 
@@ -37,18 +37,18 @@ abbrev pub types_of : CfgProgram → Program
 types_of p =
     record { types = map type_row p.layouts; features = []; signatures = []; shareds = []; main = 0; newlines = []; faults_raise = true }
 
--- a position that is told to nothing
+-- a position that is never reported
 abbrev pub nowhere : Pos
 nowhere = record { file = 0; at = 0 }
 
--- the world after a step of the language, each turn of which counts as a flat step too, and then what follows
+-- the world after a step of the language, each turn of which counts as a CFG step too, and then what follows
 abbrev pub spend_turns : {A : Type 0} → State → language.State → Eval A → Outcome A
 spend_turns s world next =
     let turns = s.world.turns - world.turns in
     if nat_le turns s.steps then next (record s { world = world; steps = s.steps - turns }) else GoesWrong s
 
--- A step of the language that raises a fault has changed nothing before it but made the fault's object, which is made
--- anew where the fault goes to.
+-- A step of the language that raises a fault has changed nothing before it but made the fault's object, which is made anew at the handler
+-- to which the fault goes.
 abbrev pub lifted : {A : Type 0} → State → language.Outcome A → Outcome A
 lifted s (Normal a world) = spend_turns s world (pure a)
 lifted s (Abrupt (language.Raised exception kind at) world) = Abrupt (Faulted kind) s
@@ -62,7 +62,7 @@ lifted s (GoesWrong world) = GoesWrong s
 unfoldable pub lift : {A : Type 0} → language_steps.Eval A → Eval A
 lift f = λ s. lifted s (f s.world)
 
--- a step on a value at an abstract type, at which one of an immutable class stands only if it is widened
+-- a step on a value at an abstract type, where one of an immutable class is allowed only if it is boxed
 abbrev pub if_abstract : {A : Type 0} → Value → Eval A → Eval A
 if_abstract v f = if is_some (unboxed_type v) then stuck else f
 
@@ -77,12 +77,12 @@ write var v = do
   changed ← with_index variables var v
   change (λ s. record s { here = record (s.here) { variables = changed } })
 
--- where there is a variable for it
+-- the value is assigned to the variable, where there is one for it
 abbrev pub put : Option ℕ → Value → Eval (Unit {0})
 put None v = pure tt
 put (Some var) v = write var v
 
--- what a callee gives, where there is a variable for it
+-- the value that a callee gives is assigned to the variable, where there is one for it
 abbrev pub put_result : Option ℕ → Option Value → Eval (Unit {0})
 put_result None v = pure tt
 put_result (Some var) None = stuck

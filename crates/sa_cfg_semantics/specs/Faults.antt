@@ -13,7 +13,7 @@ use Rattle.sa_semantics.specs.Steps.{plain, object_size, can_be_caught, take_roo
 use Rattle.sa_cfg_semantics.specs.Frames.{Transfer, To, Leaving, CallerFault, Cause, Faulted, Failed}
 use Rattle.sa_cfg_semantics.specs.Counting.{Eval, lift, write, write_number, this}
 
--- to a block, with the raised value, the place of its position and the number of its kind in variables
+-- to the block of a handler, with the raised value, the index of its position and the number of its kind in variables
 abbrev pub raised : Handler → Value → ℕ → ℕ → Eval Transfer
 raised to v place kind = do
   write to.value v
@@ -36,12 +36,12 @@ fault_here fail kind = do
   room ← look (λ s. s.world.room)
   if can_be_caught kind && nat_le (object_size 2 0) room then raise_new fail kind else stop (Failed kind fail.place)
 
--- a body without a feature, the last one aside
+-- an adapter: a body without a feature, but not the last one
 abbrev pub is_adapter : CfgProgram → ℕ → Bool
 is_adapter p k = not (k + 1 == length p.bodies) && option_map_or (λ b. is_none b.feature) (slice_get p.bodies k) false
 
 module _ (p : CfgProgram) where
-  -- A body that was made for an implementation is left by its faults, which are those of the step that entered it.
+  -- An adapter is left by its faults, which are those of the operation that entered it.
   abbrev pub fault : FaultExit → FaultKind → Eval Transfer
   fault fail kind = do
     here ← this
@@ -51,6 +51,6 @@ module _ (p : CfgProgram) where
   after_fault fail (Faulted kind) = fault fail kind
   after_fault fail cause = stop cause
 
-  -- a step that may fail
+  -- an operation that may fail
   abbrev pub guard : FaultExit → Eval Transfer → Eval Transfer
   guard fail f = resolve f pure (after_fault fail)

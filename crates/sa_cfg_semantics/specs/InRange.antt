@@ -1,4 +1,4 @@
--- That the numbers in steps and exits name something, and that lines and kinds of faults are such.
+-- That the numbers in operations and terminators name something, and that lines and kinds of faults are such.
 use Rattle.std.specs.Prelude.{◌≡◌, ℕ, ◌+◌, ◌-◌, ◌<◌, ◌≤◌, List, length, slice_get, All, Some, IfSome}
 use Rattle.sa_ast.specs.declared.fault_kind.FaultKind.{FaultKind}
 use Rattle.sa_ast.specs.declared.fault_kind.FaultKind.TheVariants as fault_kind
@@ -28,7 +28,7 @@ module _ (p : CfgProgram) where
   abbrev pub IsType : ℕ → Type 0
   IsType ty = ty < length p.layouts
 
-  -- one that can be entered: the last one can't
+  -- the number of a body that can be entered: the last one can't
   abbrev pub CanEnter : ℕ → Type 0
   CanEnter k = k + 1 < length p.bodies
 
@@ -38,7 +38,7 @@ module _ (p : CfgProgram) where
   abbrev pub HasAttribute : ℕ → ℕ → Type 0
   HasAttribute class a = (t : TypeLayout) × (slice_get p.layouts class ≡ Some t) × (a < length t.attrs)
 
-  -- that of a position, or 0 where the program has none
+  -- the index of a position, or 0 where the program has none
   abbrev pub IsPositionIndex : ℕ → Type 0
   IsPositionIndex place = place ≤ length p.positions - 1
 
@@ -84,7 +84,7 @@ IsOfStatement fault_kind.NoReturn = Unit {0}
 IsOfStatement fault_kind.Assert = Unit {0}
 IsOfStatement _ = ⊥
 
--- ---- steps and exits
+-- ---- operations and terminators
 
 module _ (p : CfgProgram) (rows : List (List ℕ)) (b : CfgBody) where
   abbrev pub IsFaultExit : FaultExit → Type 0

@@ -73,7 +73,7 @@ one_more w = record w { live = w.live + 1; started = w.started + 1 }
 abbrev pub one_less : language.State → language.State
 one_less w = record w { live = w.live - 1 }
 
--- the instance is gone
+-- the instance is removed
 abbrev pub ends : ℕ → ℕ → ℕ → (ℕ → ℕ → ℕ → language.Event) → Eval (Unit {0})
 ends feature site number event = do
   set_frame number None
@@ -86,7 +86,7 @@ abbrev pub release_each : (ℕ → Option ℕ → Eval (Unit {0})) → ℕ → L
 release_each release site [] = pure tt
 release_each release site (frame ∷ more) = release site frame >> release_each release (site + 1) more
 
--- Each site that is looked at is a step. No instance is inside itself, so that the number of frames is depth enough.
+-- Each site that is looked at is a CFG step. No instance is inside itself, so that the number of frames is depth enough.
 abbrev pub release : ℕ → ℕ → ℕ → Option ℕ → Eval (Unit {0})
 release depth feature site None = count 1
 release zero feature site (Some number) = stuck
@@ -132,7 +132,7 @@ after_run at number (Raised v place kind, variables) =
     ends at.feature at.site number language.Abandon >> pure (Raised v place kind, variables)
 after_run at number _ = stuck
 
--- that of a start, before block 0
+-- the frame of a start, before block 0
 abbrev pub new_frame : FrameSite → ℕ → ℕ → CfgBody → Value → List Value → ℕ → Frame
 new_frame at entered feature b self variables number = record {
   number = number;
@@ -146,9 +146,9 @@ new_frame at entered feature b self variables number = record {
   sites = no_frames b;
 }
 
--- From a block and a place in it on, `go` runs a body.
+-- `go` runs a body, from a block and an index in it on.
 module _ (p : CfgProgram) (go : ℕ → ℕ → Eval BodyResult) where
-  -- on its frame, with a step for each site
+  -- on its frame, with a CFG step for each site
   abbrev pub run_instance : FrameSite → ℕ → CfgBody → Frame → Eval (BodyResult × List Value)
   run_instance at k b frame = do
     caller ← this
@@ -164,7 +164,7 @@ module _ (p : CfgProgram) (go : ℕ → ℕ → Eval BodyResult) where
     })
     after_run at frame.number r
 
-  -- a new frame, for a feature's body that is reached by way of a body or itself
+  -- a new frame, for a feature's body that is entered through an adapter or itself
   abbrev pub add_frame : FrameSite → ℕ → ℕ → CfgBody → Value → List Value → Eval Frame
   add_frame at entered feature b self variables = do
     number ← look (λ s. s.world.started)
@@ -214,7 +214,7 @@ module _ (p : CfgProgram) (go : ℕ → ℕ → Eval BodyResult) where
   after_iter site plan quit given (CallerFault kind, variables) = stop (Faulted kind)
   after_iter site plan quit given _ = stuck
 
-  -- a body that was made for an implementation, entered for a site
+  -- an adapter, entered for a site
   abbrev pub run_for : FrameSite → ℕ → CfgBody → Value → Option ℕ → List Value → Eval (BodyResult × List Value)
   run_for at k b self frame variables = do
     caller ← this
@@ -234,7 +234,7 @@ module _ (p : CfgProgram) (go : ℕ → ℕ → Eval BodyResult) where
     if not b.iter then stuck
         else (if is_some b.feature then turn (begin at k k self given) else (first_variables p b given >>= run_for at k b self None))
 
-  -- A body that was made for an implementation is entered with void `once` arguments.
+  -- An adapter is entered with void `once` arguments.
   abbrev pub resumed : FrameSite → Frame → List PassedOperand → Eval (BodyResult × List Value)
   resumed at frame given = do
     b ← at_index p.bodies frame.body
@@ -264,7 +264,7 @@ module _ (p : CfgProgram) (go : ℕ → ℕ → Eval BodyResult) where
     ended ← resumed at frame all
     after_iter site plan quit all ended
 
-  -- the instance of a site, which a step with the same callee started
+  -- the instance of a site, which an operation with the same callee started
   abbrev pub resume : ℕ → CallOperation → ℕ → Eval Transfer
   resume site plan quit = do
     entry ← instance_at site
@@ -272,7 +272,7 @@ module _ (p : CfgProgram) (go : ℕ → ℕ → Eval BodyResult) where
     frame ← frame_at number
     if same_callee plan.callee frame.called then resume_frame site plan quit frame else stuck
 
-  -- ---- the entry into an iter's body, from a body that was made for an implementation
+  -- ---- the entry into an iter's body, from an adapter
 
   abbrev pub forward_fault : Cause → Eval Transfer
   forward_fault (Faulted kind) = pure (Leaving (CallerFault kind))
@@ -289,7 +289,7 @@ module _ (p : CfgProgram) (go : ℕ → ℕ → Eval BodyResult) where
   after_enter given value quit (Raised v place kind, variables) = pure (Leaving (Raised v place kind))
   after_enter given value quit _ = stuck
 
-  -- A start where no frame is there yet. The receiver is read at a start alone.
+  -- Where there is no frame yet it is a start. The receiver is read at a start alone.
   abbrev pub run_iter : ℕ → Activation → FrameSite → ℕ → List PassedOperand → Option ℕ → Eval (BodyResult × List Value)
   run_iter k here at recv given None = read recv >>= (λ self. turn (begin at here.body k self given))
   run_iter k here at recv given (Some number) = turn (continue at k number given)

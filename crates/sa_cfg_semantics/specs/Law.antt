@@ -1,4 +1,4 @@
--- Laws of runs from a place.
+-- Laws of runs from an index in a block.
 use Rattle.std.specs.Prelude.{◌≡◌, ℕ, suc, ◌≤◌, List}
 use Rattle.sa_cfg.specs.declared.program.CfgProgram.{CfgProgram}
 use Rattle.sa_cfg.specs.declared.operation.Terminator.{Terminator}
@@ -12,18 +12,18 @@ use Rattle.sa_cfg_semantics.specs.Run.{next, run_from}
 use Rattle.sa_cfg_semantics.specs.BlockParts.{HasOperation, HasTerminator}
 
 module _ (p : CfgProgram) (rows : List (List ℕ)) where
-  -- A run from the place of a step does this step, and then what it leads to.
+  -- A run from the index of an operation does this operation, and then goes on where it leads.
   abbrev pub RunsOperations : Type 0
   RunsOperations = (level block place : ℕ) (a : CfgOperation) (s : State) → HasOperation p s.here.body block place a →
       run_from p rows (suc level) block place s
       ≡ (count 1 >> (step p rows (run_from p rows level) a >>= next (run_from p rows level) block place)) s
 
-  -- a run from the place of an exit
+  -- a run from the index of a terminator
   abbrev pub RunsTerminators : Type 0
   RunsTerminators = (level block place : ℕ) (e : Terminator) (s : State) → HasTerminator p s.here.body block place e →
       run_from p rows (suc level) block place s ≡ (count 1 >> (exit p e >>= next (run_from p rows level) block place)) s
 
-  -- More levels than steps that are left make no difference.
+  -- More levels than CFG steps that are left make no difference.
   abbrev pub HasLevels : Type 0
   HasLevels =
       (level block place : ℕ) (s : State) → s.steps ≤ level → run_from p rows level block place s ≡ run_from p rows s.steps block place s

@@ -1,4 +1,4 @@
--- More small flat programs: initialisers, turns of built-ins that don't succeed, widening in its order, and steps that contradict
+-- More small control-flow graphs: initialisers, turns of built-ins that don't succeed, boxing in its order, and operations that contradict
 -- their own numbers.
 use Rattle.std.specs.Prelude.{ℕ, false, List, [], ◌∷◌, ◌++◌, map, take, length, Some, None, codes}
 use Rattle.sa_ast.specs.declared.class.ClassKind.TheVariants as kind
@@ -59,7 +59,7 @@ joining = record (program (body (Some 0) [] 0 (blocks (block (
     text 203 0 ∷ Call (plan (Builtin StrCat) str_type 203 (args In (203 ∷ [])) (Some 204)) ∷ []) (Return None)) []) ∷ []) [] [])
     { texts = codes "123456789" ∷ [] }
 
--- ---- widening
+-- ---- boxing
 
 -- the branch that puts an INT
 abbrev pub puts_int : List CfgOperation
@@ -84,7 +84,7 @@ boxing_in_two_stages = program (
     SelfRef 203 ∷ Call (plan (Body 1) own_type 203 (args Out (0 ∷ 204 ∷ [])) None) ∷ Box 1 204 int_type fails ∷ []) (Return None)) []) ∷ [])
     (2 ∷ []) []
 
--- the type behind the first of the program's own
+-- the type after the first of the program's own
 abbrev pub other_type : ℕ
 other_type = 11
 
@@ -110,9 +110,9 @@ abbrev pub catching_stop : FaultKind → CfgProgram
 catching_stop kind = program (body (Some 0) [] 0 (blocks (block [] (Fault kind (fails_to (record leaving { block = 2 })))) (
     block (of_type 203 out_type ∷ int 204 1 ∷ put_int 203 204 ∷ []) (Return None) ∷ [])) ∷ []) [] []
 
--- ---- steps that contradict their own numbers
+-- ---- operations that contradict their own numbers
 
--- `main` does these steps, and then puts 1
+-- `main` does these operations, and then puts 1
 abbrev pub doing : List CfgOperation → CfgProgram
 doing steps = program (
     body (Some 0) [] 2 (blocks (block (steps ++ of_type 203 out_type ∷ int 204 1 ∷ put_int 203 204 ∷ []) (Return None)) []) ∷
@@ -140,14 +140,14 @@ boxes_other = doing (int 204 7 ∷ Box 205 204 bool_type fails ∷ [])
 abbrev pub unboxes_other : CfgProgram
 unboxes_other = doing (int 204 7 ∷ Box 205 204 int_type fails ∷ Unbox 204 205 bool_type ∷ [])
 
--- an INT that isn't widened
+-- an INT that isn't boxed
 abbrev pub asks_type : CfgProgram
 asks_type = doing (int 204 7 ∷ TypeIs 205 204 int_type ∷ [])
 
 abbrev pub dispatches_raw : CfgProgram
 dispatches_raw = doing (int 204 7 ∷ Call (plan (Dispatch 0) 0 204 [] None) ∷ [])
 
--- an attribute of FAULT, which is no class of the receiver
+-- an attribute of FAULT, which isn't the class of the receiver
 abbrev pub gets_of_other : CfgProgram
 gets_of_other = doing (New 204 own_type fails ∷ Call (plan (Get 0) 7 204 [] (Some 205)) ∷ [])
 
@@ -157,7 +157,7 @@ makes_abstract = doing (New 204 0 fails ∷ [])
 abbrev pub sets_no_variable : CfgProgram
 sets_no_variable = doing (int 300 7 ∷ [])
 
--- the instance is resumed by a step with another callee
+-- the instance is resumed by an operation with another callee
 abbrev pub resumes_other : CfgProgram
 resumes_other = program (
     record (body (Some 0) [] 0 (blocks (block (
@@ -166,6 +166,6 @@ resumes_other = program (
 
 -- ---- bound values
 
--- the signatures of a program of which a body is made for the feature 1
+-- the signatures of a program in which the feature 1 has an adapter
 abbrev pub one_signature : List Signature
 one_signature = record { impls = record { ty = own_type; target = target.Feature 1 } ∷ []; wide_args = false ∷ []; wide = false } ∷ []

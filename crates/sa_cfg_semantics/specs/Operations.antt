@@ -1,4 +1,4 @@
--- What each step does.
+-- Operations: what each does.
 use Rattle.std.specs.Prelude.{ℕ, Bool, false, ◌&&◌, ◌||◌, ◌==◌, if◌then◌else◌, List, length, set, find, Option, is_some}
 use Rattle.std.specs.Option.{option_map_or}
 use Rattle.sa_ast.specs.declared.fault_kind.FaultKind.TheVariants as fault_kind
@@ -24,15 +24,15 @@ use Rattle.sa_cfg_semantics.specs.Faults.{is_adapter, guard}
 use Rattle.sa_cfg_semantics.specs.Calls.{call, bind}
 use Rattle.sa_cfg_semantics.specs.Instances.{instance_at, release_all, start, resume, enter_iter}
 
--- the value goes to a variable, and the next step comes
+-- the value is assigned to a variable, and the next operation follows
 abbrev pub give : ℕ → Eval Value → Eval Transfer
 give to f = f >>= write to >> pure Onward
 
--- what is made of a variable's value
+-- what a function gives of a variable's value is assigned to a variable
 abbrev pub give_of : ℕ → ℕ → (Value → Value) → Eval Transfer
 give_of to from see = give to (read from >>= (λ v. pure (see v)))
 
--- the value is a widened one of the immutable class
+-- the value is a boxed one of the immutable class
 abbrev pub is_boxed_of : ℕ → Value → Bool
 is_boxed_of ty (Boxed v) = is_unboxed ty v
 is_boxed_of ty v = false
@@ -51,31 +51,30 @@ module _ (p : CfgProgram) where
     n ← or_stuck (as_int v)
     lift (new_array (types_of p) ty nowhere n)
 
-  -- a step that makes an object of the type: no class has the number 0
+  -- a step that makes an object of the type: no class has the index 0
   abbrev pub if_class : ℕ → Eval Value → Eval Value
   if_class ty f = if ty == 0 then stuck else f
 
   abbrev pub has_type : ℕ → Value → Eval Value
   has_type ty v = if_abstract v (lift (dynamic_type v) >>= (λ dynamic. pure (Truth (takes (types_of p) ty dynamic))))
 
-  -- the running body was made for an implementation
+  -- the running body is an adapter
   abbrev pub this_is_adapter : Eval Bool
   this_is_adapter = this >>= (λ here. pure (is_adapter p here.body))
 
-  -- A value of the immutable class, widened. A bound value may have kept it so for a body that was made for an implementation.
+  -- A value of the immutable class, boxed. In an adapter it may be boxed already, as a bound value stores it.
   abbrev pub box_operand : ℕ → Value → Eval Value
   box_operand ty v = do
     made ← this_is_adapter
     if made && is_boxed_of ty v then pure v else lift (boxed_from (types_of p) nowhere ty v)
 
-  -- A widened value of the immutable class, as it stands there. A bound value may have kept it so for a body that was made for
-  -- an implementation.
+  -- A boxed value of the immutable class, unboxed. In an adapter it may be unboxed already, as a bound value stores it.
   abbrev pub unbox_operand : ℕ → Value → Eval Value
   unbox_operand ty v = do
     made ← this_is_adapter
     if is_boxed_of ty v || made && is_unboxed ty v then pure (unboxed v) else stuck
 
-  -- what a bind keeps of a value: it is widened where the class of the receiver is one of the types
+  -- what a bind stores of a value: it is boxed where the class of the receiver is one of the types
   abbrev pub bound_as : Value → List ℕ → Option ℕ → Eval Value
   bound_as v types dynamic =
       lift (boxed_if (types_of p) nowhere (option_map_or (λ class. is_some (find (λ ty. ty == class) types)) dynamic false) v)
@@ -86,7 +85,7 @@ module _ (p : CfgProgram) where
     receiver ← read recv
     if is_unboxed ty v then if_abstract receiver (lift (dynamic_type receiver) >>= bound_as v types) else stuck
 
--- an element of an array of the type gets its value
+-- an element of an array of the type is set
 abbrev pub set_element : ℕ → ℕ → ℕ → ℕ → Eval (Unit {0})
 set_element array ty at value = do
   a ← read array
@@ -102,7 +101,7 @@ set_element array ty at value = do
 abbrev pub check_not_void : Value → Eval Transfer
 check_not_void v = if is_nothing v then stop (Faulted fault_kind.Void) else if_abstract v (pure Onward)
 
--- From a block and a place in it on, `go` runs a body.
+-- `go` runs a body, from a block and an index in it on.
 module _ (p : CfgProgram) (rows : List (List ℕ)) (go : ℕ → ℕ → Eval BodyResult) where
   abbrev pub step : CfgOperation → Eval Transfer
   step (Const to value) = give to (constant p value)

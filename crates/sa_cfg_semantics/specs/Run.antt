@@ -1,4 +1,4 @@
--- Runs of bodies from a place on, and whole runs.
+-- Runs of bodies from an index in a block on, and whole runs.
 use Rattle.std.specs.Prelude.{ℕ, zero, suc, ◌+◌, ◌-◌, ◌*◌, List, [], map, length, slice_get, Option, Some, None, unwrap_or}
 use Rattle.sa_cfg.specs.declared.body.BasicBlock.{BasicBlock}
 use Rattle.sa_cfg.specs.declared.operation.CfgOperation.{CfgOperation}
@@ -18,7 +18,7 @@ use Rattle.sa_cfg_semantics.specs.Calls.{first_variables, run_body, routine}
 use Rattle.sa_cfg_semantics.specs.Operations.{step}
 use Rattle.sa_cfg_semantics.specs.Terminators.{exit}
 
--- ---- from a place on
+-- ---- from an index in a block on
 
 abbrev pub this_block : CfgProgram → ℕ → Eval BasicBlock
 this_block p block = do
@@ -26,14 +26,14 @@ this_block p block = do
   b ← at_index p.bodies here.body
   at_index b.blocks block
 
--- From a block and a place in it on, `go` runs a body.
+-- `go` runs a body, from a block and an index in it on.
 abbrev pub next : (ℕ → ℕ → Eval BodyResult) → ℕ → ℕ → Transfer → Eval BodyResult
 next go block place Onward = go block (place + 1)
 next go block place (To other) = go other 0
 next go block place (Leaving ending) = pure ending
 
 module _ (p : CfgProgram) (rows : List (List ℕ)) (go : ℕ → ℕ → Eval BodyResult) where
-  -- the step at the place, and the exit behind the last one
+  -- the operation at the index, and the terminator after the last one
   abbrev pub run_next : BasicBlock → Option CfgOperation → Eval Transfer
   run_next b None = exit p b.exit
   run_next b (Some a) = step p rows go a
@@ -45,15 +45,15 @@ module _ (p : CfgProgram) (rows : List (List ℕ)) (go : ℕ → ℕ → Eval Bo
     way ← run_next b (slice_get b.steps place)
     next go block place way
 
--- The running body, from a block and the number of steps done in it on. The level falls at each step and exit as the steps
--- that are left do, so that it is never below them.
+-- The running body, from a block and the number of operations done in it on. The level falls at each operation and terminator as the CFG
+-- steps that are left do, so that it is never less than they are.
 abbrev pub run_from : CfgProgram → List (List ℕ) → ℕ → ℕ → ℕ → Eval BodyResult
 run_from p rows zero block place = stuck
 run_from p rows (suc level) block place = run_at p rows (run_from p rows level) block place
 
 -- ---- whole runs
 
--- how many flat steps there are at most in so many turns
+-- how many CFG steps there are at most in so many turns
 abbrev pub most_steps : ℕ → ℕ
 most_steps turns = 200201000000 * (turns + 1)
 
@@ -72,7 +72,7 @@ world_of p input room turns = record {
   here = record { feature = None; self = Void; variables = []; sites = language.Empty; exception = None; depth = 0 };
 }
 
--- no body yet
+-- before any body is entered
 abbrev pub outside : Activation
 outside = record { body = 0; self = Void; variables = []; sites = []; frame = None; station = None; depth = 0 }
 
@@ -92,9 +92,9 @@ module _ (p : CfgProgram) (go : ℕ → ℕ → Eval BodyResult) where
 unfoldable pub outcome : CfgProgram → List (List ℕ) → language.Input → ℕ → ℕ → Outcome BodyResult
 outcome p rows input room turns = whole_run p (run_from p rows (most_steps turns)) (initial p input room turns)
 
--- ---- what is seen of a run
+-- ---- what is observed of a run
 
--- Where the program has no such position, no rule says what is told.
+-- Where the program has no such position, no rule applies: the run is stuck.
 abbrev pub stop_end : List ℕ → ℕ → Option Pos → End
 stop_end output kind None = whole.Stuck
 stop_end output kind (Some at) = whole.Stopped output kind at

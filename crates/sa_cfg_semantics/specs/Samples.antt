@@ -1,4 +1,4 @@
--- Small flat programs, each as the source above it is lowered.
+-- Small control-flow graphs, each as the source above it is lowered.
 use Rattle.std.specs.Prelude.{ℕ, pos, true, false, List, [], ◌∷◌, ◌++◌, map, length, Option, Some, None}
 use Rattle.sa_ast.specs.declared.class.ClassKind.{ClassKind}
 use Rattle.sa_ast.specs.declared.class.ClassKind.TheVariants as kind
@@ -27,7 +27,7 @@ use Rattle.sa_prelude.specs.declared.feature.BuiltinFeature.{BuiltinFeature}
 use Rattle.sa_prelude.specs.declared.feature.BuiltinFeature.TheVariants.{IntPlus, IntIsLt, OutPutInt}
 use Rattle.sa_semantics.specs.Value.{int_type, fault_type}
 
--- ---- words for flat programs, all of whose faults stand at one place
+-- ---- short names for control-flow graphs, all of whose faults have the same position
 
 abbrev pub here : Pos
 here = record { file = 1; at = 0 }
@@ -62,7 +62,7 @@ int to n = Const to (const.Int (pos n))
 abbrev pub of_type : ℕ → ℕ → CfgOperation
 of_type to ty = Const to (const.Void ty)
 
--- a built-in feature of INT
+-- a call of a built-in feature of INT
 abbrev pub on_ints : BuiltinFeature → ℕ → ℕ → ℕ → CfgOperation
 on_ints feature to a b = Call (plan (Builtin feature) int_type a (args In (b ∷ [])) (Some to))
 
@@ -95,8 +95,8 @@ layouts =
     layout kind.Reference (int_type ∷ int_type ∷ []) ∷ layout kind.Reference [] ∷ layout kind.Reference [] ∷ layout kind.Reference [] ∷ []
 
 abbrev pub body : Option ℕ → List BodyParam → ℕ → List BasicBlock → CfgBody
-body feature formals own blocks =
-    record { feature = feature; iter = false; formals = formals; own = own; temporaries = 220; sites = 0; kept = []; blocks = blocks }
+body feature formals variables blocks =
+    record { feature = feature; iter = false; formals = formals; variable_count = variables; temporaries = 220; sites = 0; saved = []; blocks = blocks }
 
 abbrev pub formal : Mode → ℕ → BodyParam
 formal mode ty = record { mode = mode; ty = ty }
@@ -219,8 +219,7 @@ choosing = choosing_of (New 203 own_type fails)
 abbrev pub choosing_void : CfgProgram
 choosing_void = choosing_of (of_type 203 0)
 
--- The implementation takes a $OB where the signature has an INT, so that it has an adapter, and the bind widens what
--- it keeps.
+-- The implementation takes a $OB where the signature has an INT, so that it has an adapter, and the bind boxes what it stores.
 -- main is a:$A := #B; r ::= bind(a.f(7)); #OUT + r.call; #OUT + r.call; end
 -- f(x:$OB):INT is typecase x when INT then return x; end; return 0; end, in a class B < $A
 abbrev pub keeping : CfgProgram
@@ -241,8 +240,8 @@ keeping = program (
 -- ---- iters
 
 abbrev pub iter_body : Option ℕ → List BodyParam → ℕ → List BasicBlock → CfgBody
-iter_body feature formals own blocks =
-    record { feature = feature; iter = true; formals = formals; own = own; temporaries = 220; sites = 0; kept = []; blocks = blocks }
+iter_body feature formals variables blocks =
+    record { feature = feature; iter = true; formals = formals; variable_count = variables; temporaries = 220; sites = 0; saved = []; blocks = blocks }
 
 -- upto!(once n:INT):INT is i ::= 0; loop while!(i < n); yield i; i := i + 1; end; end
 abbrev pub upto : CfgBody
@@ -260,8 +259,8 @@ abbrev pub iter_plan : CallTarget → List ℕ → CallOperation
 iter_plan callee vars =
     record { callee = callee; class = main_type; recv = 206; args = args Once vars; value = Some 208; fail = fails_to out_of_loop }
 
--- The first steps, and then a loop each round of which has a call of an iter and what comes behind it; where the loop is left,
--- its instance is released, and the body ends by the last exit.
+-- The first operations, and then a loop each round of which has a call of an iter and what comes after it; where the loop is left, its
+-- instance is released, and the body ends by the last terminator.
 abbrev pub loop_blocks : List CfgOperation → List CfgOperation → CallOperation → List CfgOperation → Terminator → Terminator → List BasicBlock
 loop_blocks first operands plan round exit last = blocks (block first (Jump 2)) (
     block (Turn ∷ of_type 203 out_type ∷ HasInstance 204 0 ∷ []) (Branch 204 4 5) ∷
@@ -299,7 +298,7 @@ boxing_iter = program (
     block [] Quit ∷
     block (Box 207 205 int_type fails ∷ []) (Suspend (Some 207) None) ∷ [])) ∷ []) (2 ∷ []) []
 
--- The iter takes a $OB where the signature has an INT, which is widened at the start.
+-- The iter takes a $OB where the signature has an INT, which is boxed at the start.
 -- main is a:$A := #B; loop #OUT + a.two!(3); end; end
 -- two!(once x:$OB):INT is yield 1; yield 2; end, in a class B < $A
 abbrev pub boxing_once : CfgProgram

@@ -1,5 +1,5 @@
--- What a bound value calls in the two runs. Where the typed run binds an implementation of a signature, the flat one binds the
--- body that was made for it.
+-- What a bound value calls in the two runs. Where the typed run binds an implementation of a signature, the run of the control-flow graph
+-- binds the adapter of this implementation.
 use Rattle.std.specs.Prelude.{ℕ, ◌==◌, if◌then◌else◌, List, flat_map, slice_get, position, Option, Some, option_map, option_and_then}
 use Rattle.sa_typed.specs.declared.feature.Target.{Target}
 use Rattle.sa_typed.specs.declared.feature.Target.TheVariants as target
@@ -8,15 +8,15 @@ use Rattle.sa_cfg.specs.declared.program.CfgProgram.{CfgProgram}
 use Rattle.sa_semantics.specs.Program.{Signature}
 use Rattle.sa_cfg_semantics.specs.Faults.{is_adapter}
 
--- those of all signatures, in the order in which a flat program has their bodies
+-- the implementations of all signatures, in the order in which a control-flow graph has their bodies
 abbrev pub implementations : List Signature → List TypedImplementation
 implementations signatures = flat_map (λ s. s.impls) signatures
 
--- the one for which the body at this place was made
+-- the implementation whose adapter is at this index
 abbrev pub implementation_of : List Signature → Option ℕ → Option TypedImplementation
 implementation_of signatures place = option_and_then (slice_get (implementations signatures)) place
 
--- the target in the typed program of a target that the flat one binds
+-- the target in the typed program of a target that the control-flow graph binds
 abbrev pub source_target : CfgProgram → List Signature → Target → Option Target
 source_target p signatures (target.Feature k) =
     if is_adapter p k then option_map (λ i. i.target) (implementation_of signatures (position (λ body. body == k) p.targets))

@@ -1,4 +1,4 @@
--- Where each exit leads.
+-- Terminators: where each leads.
 use Rattle.std.specs.Prelude.{ℕ, if◌then◌else◌, Option, Some, None}
 use Rattle.sa_cfg.specs.declared.operation.Terminator.{Terminator}
 use Rattle.sa_cfg.specs.declared.operation.Terminator.TheVariants.{Jump, Branch, Return, Suspend, Quit, Raise, Fault}
@@ -31,7 +31,7 @@ abbrev pub suspend_at : ℕ → Activation → Frame → Frame
 suspend_at block here frame = record frame { block = block; variables = here.variables; sites = here.sites }
 
 module _ (p : CfgProgram) where
-  -- The instance is kept in its frame, with a step for each site. Where the body names no block, the frame stays as it is.
+  -- The instance is saved in its frame, with a CFG step for each site. Where the body names no block, the frame stays as it is.
   abbrev pub store : ℕ → Option ℕ → Eval (Unit {0})
   store number None = pure tt
   store number (Some block) = do

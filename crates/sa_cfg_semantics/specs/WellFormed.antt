@@ -1,4 +1,4 @@
--- Flat programs whose numbers are in range, whose sizes have bounds, and which read no variable that isn't there.
+-- Control-flow graphs whose numbers are in range, whose sizes have bounds, and which read no variable that doesn't exist.
 use Rattle.std.specs.Prelude.{◌≡◌, ◌≢◌, ℕ, ◌+◌, ◌-◌, ◌<◌, ◌≤◌, ◌↔◌, Bool, false, IsTrue, List, [], ◌∷◌, map, length, take}
 use Rattle.std.specs.Prelude.{drop, slice_get, sum_by, unwrap_or, All, AllPairs, Contains, Some, None, IfSome, is_some}
 use Rattle.std.specs.Option.{option_map_or}
@@ -21,7 +21,7 @@ use Rattle.sa_cfg_semantics.specs.Calls.{width}
 use Rattle.sa_cfg_semantics.specs.Faults.{is_adapter}
 use Rattle.sa_cfg_semantics.specs.InRange.{IsType, CanEnter, IsCallTarget, IsWellFormedBlock}
 
--- ---- bodies that were made for an implementation
+-- ---- adapters
 
 module _ (p : CfgProgram) where
   abbrev pub has_feature : ℕ → Bool
@@ -44,7 +44,7 @@ module _ (p : CfgProgram) where
   abbrev pub IsAdapter : CfgBody → Type 0
   IsAdapter b = All (λ block. All EntersFeatures block.steps) b.blocks
 
-  -- bodies that have features, or of which none has one
+  -- either all bodies have features, or none has one
   abbrev pub AreAlike : List ℕ → Type 0
   AreAlike bodies = AllPairs (λ a b. has_feature a ≡ has_feature b) bodies
 
@@ -58,11 +58,11 @@ pub record IsResumed (b : CfgBody) (resumed : BasicBlock) : Type 0 where
   pub goes_on : Contains (resume_of suspending.exit) to
   pub is_resumed : slice_get b.blocks to ≡ Some resumed
 
--- Behind a resumption each temporary is set before it is read.
+-- After a resumption each temporary is set before it is read.
 abbrev pub SetsTemporaries : CfgBody → Type 0
 SetsTemporaries b = (resumed : BasicBlock) (v : ℕ) → IsResumed b resumed → 200 ≤ v → ¬ (IsLive b v resumed.steps resumed.exit)
 
--- the list of the variables that are kept
+-- the list of the saved variables
 pub record HasSaved (b : CfgBody) : Type 0 where
   pub rises : IsRising b.saved
   pub has : (v : ℕ) → Contains b.saved v ↔ IsSaved b v
@@ -87,9 +87,9 @@ pub record HasBaseTypes (p : CfgProgram) : Type 0 where
 -- ---- parts of a program
 
 module _ (p : CfgProgram) (rows : List (List ℕ)) where
-  -- the body of the number k
+  -- the body at the index k
   pub record IsWellFormedBody (k : ℕ) (b : CfgBody) : Type 0 where
-    -- features have the numbers of their bodies
+    -- a feature and its body have the same index
     pub feature : IfSome b.feature (λ feature. feature ≡ k)
     pub formals : All (λ f. IsType p f.ty) b.formals
     pub own : length b.formals ≤ b.variable_count

@@ -1,5 +1,5 @@
-//! What a flat program means, as definitions: frames of instances, runs of bodies, steps, exits and whole runs. No code runs
-//! them. They are what the theorems about lowering and about modules speak of.
+//! The semantics of control-flow graphs, as definitions: frames of instances, runs of bodies, operations, terminators and whole runs. No
+//! code runs them. They are what the theorems about lowering and about modules speak of.
 #![tactic(auto)]
 
 mod law;

@@ -1,7 +1,8 @@
-//! Which bound types a bound type is below.
+//! Which bound types are supertypes of a bound type.
 
+use failure::Failure;
 use indexmap::IndexMap;
-use sa_ast::{Mode, ModeTy, NoMemory, Ty};
+use sa_ast::{Mode, ModeTy, Ty};
 use sa_subtypes::SubtypeRelation;
 use sqlite_items::Items;
 use std::alloc::{AllocError, Global};
@@ -13,7 +14,8 @@ struct NumberedType<'a> {
     ty: &'a Ty,
 }
 
-/// Bound types with their numbers, rising, by their shape: bound types of different shapes aren't below each other.
+/// Bound types with their numbers, in ascending order, by a key: the kind, the presence of a result and the modes. Bound types with
+/// different keys aren't subtypes of each other.
 #[derive(Drop)]
 pub(crate) struct BoundTypeIndex<'a> {
     by_shape: IndexMap<Vec<u8>, Vec<NumberedType<'a>>>,
@@ -26,8 +28,8 @@ impl<'a> BoundTypeIndex<'a> {
         }
     }
 
-    /// Puts a type at the end of those of its shape. A type that isn't bound is left out.
-    pub(crate) fn add(&mut self, alloc: Global, number: u32, ty: &'a Ty) -> Result<(), NoMemory> {
+    /// Adds a type to those with its key. A type that isn't bound is left out.
+    pub(crate) fn add(&mut self, alloc: Global, number: u32, ty: &'a Ty) -> Result<(), Failure> {
         let Some(shape) = shape_of(alloc, ty)? else {
             return Ok(());
         };
@@ -41,14 +43,14 @@ impl<'a> BoundTypeIndex<'a> {
         Ok(())
     }
 
-    /// The numbers of the bound types that a type is below, but for its own, rising.
+    /// The numbers of the bound types that are proper supertypes of a type, in ascending order.
     pub(crate) fn above(
         &self,
         alloc: Global,
         edges: &SubtypeRelation,
         number: u32,
         ty: &Ty,
-    ) -> Result<Vec<u32>, NoMemory> {
+    ) -> Result<Vec<u32>, Failure> {
         let mut above = Vec::new(alloc);
         let Some(shape) = shape_of(alloc, ty)? else {
             return Ok(above);
@@ -87,7 +89,7 @@ fn shape_of(alloc: Global, ty: &Ty) -> Result<Option<Vec<u8>>, AllocError> {
     }
 }
 
-/// The first byte of a shape, and behind it those of the modes.
+/// The first byte of a key, followed by those of the modes.
 fn shape(alloc: Global, head: u8, args: &[ModeTy]) -> Result<Vec<u8>, AllocError> {
     let mut bytes = Vec::new(alloc);
     bytes.push(head)?;

@@ -1,13 +1,14 @@
 //! The refusals of the bodies of a program: the first one, or the first of each feature.
 
+use failure::Failure;
 use indexmap::IndexMap;
-use sa_ast::{NoMemory, Pos, Refusal, Rejection};
+use sa_ast::{Pos, Refusal, Rejection};
 use sa_typed::TypedProgram;
 use std::alloc::Global;
 
 /// Which refusals of bodies are looked for.
 #[derive(Clone, Copy)]
-pub(crate) enum Extent {
+enum Extent {
     /// The first one.
     First,
     /// The first of each feature.
@@ -16,22 +17,31 @@ pub(crate) enum Extent {
 
 /// The refusals of bodies so far.
 #[derive(Drop)]
-pub(crate) struct Diagnostics {
+pub struct Diagnostics {
     wanted: Extent,
-    /// The first refusal of each feature that is refused, by the place of its name.
+    /// The first refusal of each feature that is refused, by the position of its name.
     by_feature: IndexMap<Pos, Refusal>,
 }
 
 impl Diagnostics {
-    /// No refusals.
-    pub(crate) fn new(alloc: Global, wanted: Extent) -> Diagnostics {
+    /// No refusals, where checking ends with the first one.
+    pub fn first(alloc: Global) -> Diagnostics {
+        Diagnostics::new(alloc, Extent::First)
+    }
+
+    /// No refusals, where the first one of each feature is looked for.
+    pub fn of_each(alloc: Global) -> Diagnostics {
+        Diagnostics::new(alloc, Extent::OfEach)
+    }
+
+    fn new(alloc: Global, wanted: Extent) -> Diagnostics {
         Diagnostics {
             wanted,
             by_feature: IndexMap::new(alloc),
         }
     }
 
-    /// Takes why the feature with this name has no typed body, or gives it back where nothing behind it is looked for.
+    /// Takes why the feature with this name has no typed body, or gives it back where no later refusal is looked for.
     pub(crate) fn take(&mut self, feature: Pos, fault: Rejection) -> Result<(), Rejection> {
         match (self.wanted, fault) {
             (Extent::OfEach, Rejection::Refused(refusal)) => Ok(self.add(feature, refusal)?),
@@ -40,16 +50,16 @@ impl Diagnostics {
     }
 
     /// Adds a refusal of the feature with this name, unless it has one.
-    fn add(&mut self, feature: Pos, refusal: Refusal) -> Result<(), NoMemory> {
+    fn add(&mut self, feature: Pos, refusal: Refusal) -> Result<(), Failure> {
         if self.by_feature.get(&feature).is_none() {
             self.by_feature.insert(feature, refusal)?;
         }
         Ok(())
     }
 
-    /// The typed tree if nothing is refused, or else the first refusal, with the others at the end of `further`. The last one is
-    /// that of the tree, where it has none.
-    pub(crate) fn answer(
+    /// The typed program if nothing is refused, or else the first refusal, with the others appended to `further`. The last of them is that
+    /// of `core`, where `core` is a refusal.
+    pub fn answer(
         &self,
         core: Result<TypedProgram, Rejection>,
         further: &mut Vec<Refusal>,
@@ -60,14 +70,14 @@ impl Diagnostics {
         self.add_others(further)?;
         match core {
             Err(Rejection::Refused(last)) => further.push(last)?,
-            Err(Rejection::NoMemory) => return Err(Rejection::NoMemory),
+            Err(Rejection::Failed(failure)) => return Err(Rejection::Failed(failure)),
             Ok(_core) => {}
         }
         Err(Rejection::Refused(*first))
     }
 
-    /// Puts all refusals but the first at the end of others.
-    fn add_others(&self, further: &mut Vec<Refusal>) -> Result<(), NoMemory> {
+    /// Appends all refusals but the first to others.
+    fn add_others(&self, further: &mut Vec<Refusal>) -> Result<(), Failure> {
         for place in 1..self.by_feature.len() {
             if let Some((_, refusal)) = self.by_feature.get_index(place) {
                 further.push(*refusal)?;

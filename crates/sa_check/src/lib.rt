@@ -1,7 +1,7 @@
-//! The typed tree of a program from its classes, or the first refusal by the rules on classes, types and bodies.
+//! The typed AST of a program from its instances and their tables, or the first refusal by the rules on bodies.
 #![tactic(auto)]
 
-mod all;
+mod bodies;
 mod bound_supertypes;
 mod class_supertypes;
 mod feature_refusals;
@@ -11,7 +11,7 @@ mod others;
 mod sigs;
 mod types;
 mod typing;
-mod whole;
 
-pub use all::check_all;
-pub use whole::check;
+pub use bodies::check_bodies;
+pub use feature_refusals::Diagnostics;
+pub use others::{with_main, with_others};

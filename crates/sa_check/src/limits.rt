@@ -1,9 +1,9 @@
 //! The size of a typed program, and the number of its dispatch pairs.
 
 use sa_ast::{Pos, Rejection, Rule};
-use sa_check_simple::MOST_NODES;
+use sa_check_stmt::MOST_NODES;
 
-/// How many pairs of a signature and a concrete type below its own a program has at most.
+/// The greatest number of dispatch pairs of a program, each of a signature and a concrete subtype of the signature's type.
 pub(crate) const MOST_PAIRS: u32 = 100_000;
 
 /// The number of nodes, features and shareds so far.
@@ -22,7 +22,7 @@ impl Size {
         }
     }
 
-    /// Counts a feature or a shared, by its name and the number of its nodes. It tells whether the sum is within its limit.
+    /// Counts a feature or a shared, by its name and the number of its nodes. It answers whether the sum is within its limit.
     pub(crate) fn add(&mut self, name: Pos, nodes: u32) -> bool {
         self.sum = self.sum.saturating_add(nodes).saturating_add(1);
         if self.passed.is_none() && self.sum > MOST_NODES {

@@ -1,15 +1,16 @@
-//! The classes that nothing needs. MAIN is made to need them, by a feature that no source can spell and whose arguments are of
-//! their types.
+//! The classes that nothing needs. MAIN is made to need them, by a feature that no source can spell and whose parameters are of their
+//! types.
 
 ghost use Rattle.std.specs.Prelude.{◌<◌, length, IfSome};
 
+use failure::{Failure, Invariant, broken, known};
 use sa_ast::{
-    Access, Class, ClassKind, Feature, FeatureBody, FlatClass, FormalParam, Local, Mode, Name,
-    NoMemory, Pos, Rejection, Shared, Ty, TypeParam, held,
+    Access, Class, ClassKind, Feature, FeatureBody, FlatClass, FormalParam, Local, Mode, Name, Pos,
+    Rejection, Shared, Ty, TypeParam,
 };
 use sa_instantiate::Instances;
+use sa_subst::subst;
 use sa_subtypes::SubtypeRelation;
-use sa_types::subst;
 use sqlite_items::Items;
 use std::alloc::Global;
 
@@ -27,7 +28,7 @@ enum Which {
 }
 
 /// The flattened classes of a program, with a MAIN whose `main` does nothing where there is none.
-pub(crate) fn with_main(alloc: Global, flat: FlatClass) -> Result<FlatClass, NoMemory> {
+pub fn with_main(alloc: Global, flat: FlatClass) -> Result<FlatClass, Failure> {
     if place_of_main(flat.classes.as_slice()).is_some() {
         return Ok(flat);
     }
@@ -37,22 +38,22 @@ pub(crate) fn with_main(alloc: Global, flat: FlatClass) -> Result<FlatClass, NoM
     Ok(FlatClass { classes })
 }
 
-/// The flattened classes of a program in which MAIN needs all classes of the files, but for partial ones, which are no types, and
-/// those with a bound that names a parameter of the class.
+/// The flattened classes of a program in which MAIN needs all classes of the files, except partial ones, which are no types, and those with
+/// a bound that names a parameter of the class.
 ///
 /// A class with parameters that one without parameters needs is no more one that nothing needs.
 ///
 /// # Errors
 ///
-/// The first refusal by the rules on supertypes, on `main` and on the needed types, and `NoMemory`.
-pub(crate) fn with_others(alloc: Global, flat: FlatClass) -> Result<FlatClass, Rejection> {
+/// The first refusal by the rules on supertypes, on `main` and on the needed types, and a `Failure`.
+pub fn with_others(alloc: Global, flat: FlatClass) -> Result<FlatClass, Rejection> {
     let types = others(alloc, &flat, Which::WithoutParameters)?;
     let flat = with_types(alloc, flat, types)?;
     let types = others(alloc, &flat, Which::WithParameters)?;
     Ok(with_types(alloc, flat, types)?)
 }
 
-/// The place of MAIN.
+/// The index of MAIN.
 fn place_of_main(classes: &[Class]) -> Option<usize>
     ensures within { IfSome result (λ place. place < length classes.now) }
 {
@@ -65,7 +66,7 @@ fn place_of_main(classes: &[Class]) -> Option<usize>
 }
 
 /// A class MAIN whose `main` does nothing.
-fn empty_main(alloc: Global) -> Result<Class, NoMemory> {
+fn empty_main(alloc: Global) -> Result<Class, Failure> {
     let pos = Pos {
         file: FIRST_FILE,
         at: 0,
@@ -84,16 +85,16 @@ fn empty_main(alloc: Global) -> Result<Class, NoMemory> {
     })
 }
 
-/// The same classes, with a feature of MAIN that has arguments of these types. MAIN stands behind the others then.
+/// The same classes, with a feature of MAIN that has parameters of these types. MAIN is then after the others.
 fn with_types(
     alloc: Global,
     flat: FlatClass,
     types: Items<FormalParam>,
-) -> Result<FlatClass, NoMemory> {
+) -> Result<FlatClass, Failure> {
     let FlatClass { classes } = flat;
     let mut classes = classes;
     let Some(place) = place_of_main(classes.as_slice()) else {
-        return Err(NoMemory);
+        return broken(Invariant::CheckedNumber);
     };
     let mut main = classes.remove(place);
     let naming = feature(alloc, b"", main.name.pos, types, FeatureBody::Stub)?;
@@ -109,7 +110,7 @@ fn feature(
     pos: Pos,
     formals: Items<FormalParam>,
     part: FeatureBody,
-) -> Result<Feature, NoMemory> {
+) -> Result<Feature, Failure> {
     Ok(Feature {
         name: local(alloc, name, pos)?,
         access: Access::Private,
@@ -119,14 +120,14 @@ fn feature(
     })
 }
 
-fn local(alloc: Global, name: &[u8], pos: Pos) -> Result<Local, NoMemory> {
+fn local(alloc: Global, name: &[u8], pos: Pos) -> Result<Local, Failure> {
     Ok(Local {
         name: Name::from_slice(alloc, name)?,
         pos,
     })
 }
 
-/// An argument of the type of each class of a kind that nothing needs, in text order.
+/// A parameter of the type of each class of a kind that nothing needs, in text order.
 fn others(alloc: Global, flat: &FlatClass, which: Which) -> Result<Items<FormalParam>, Rejection> {
     let edges = SubtypeRelation::make(alloc, flat)?;
     let program = Instances::instantiate(alloc, flat, &edges)?;
@@ -134,29 +135,32 @@ fn others(alloc: Global, flat: &FlatClass, which: Which) -> Result<Items<FormalP
     Ok(formals(alloc, flat.classes.as_slice(), which, needed.as_slice())?)
 }
 
-/// For each of so many classes whether a needed type is of it.
+/// For each of this many classes whether a needed type is of it.
 fn needed_places(
     alloc: Global,
     program: &Instances<'_>,
     classes: usize,
-) -> Result<Vec<bool>, NoMemory> {
+) -> Result<Vec<bool>, Failure> {
     let mut needed = vec![in alloc; false; classes]?;
     for ty in 0..program.count() {
         if let Some(class) = program.class(ty) {
-            let place = held(program.edges().class_place(class.name.name.as_slice()))?;
-            *held(needed.get_mut(place as usize))? = true;
+            let place = known(
+                program.edges().class_place(class.name.name.as_slice()),
+                Invariant::CheckedNumber,
+            )?;
+            *known(needed.get_mut(place as usize), Invariant::CheckedNumber)? = true;
         }
     }
     Ok(needed)
 }
 
-/// An argument of the type of each class of a kind that isn't among the needed ones.
+/// A parameter of the type of each class of a kind that isn't among the needed ones.
 fn formals(
     alloc: Global,
     classes: &[Class],
     which: Which,
     needed: &[bool],
-) -> Result<Items<FormalParam>, NoMemory> {
+) -> Result<Items<FormalParam>, Failure> {
     let mut formals = Items::new(alloc);
     for (class, is_needed) in classes.iter().zip(needed.iter()) {
         if !*is_needed && is_among(class, which) {
@@ -176,12 +180,12 @@ fn is_among(class: &Class, which: Which) -> bool {
     is_of_kind && class.kind != ClassKind::Partial && class.name.pos.file != PRELUDE
 }
 
-/// Adds an argument of the type of a class, if it is one at its bounds.
+/// Adds a parameter of the type of a class, if it is one at its bounds.
 fn add_formal(
     alloc: Global,
     class: &Class,
     formals: &mut Items<FormalParam>,
-) -> Result<(), NoMemory> {
+) -> Result<(), Failure> {
     if let Some(ty) = at_bounds(alloc, class)? {
         let local = local(alloc, b"", class.name.pos)?;
         let mode = Mode::In;
@@ -190,9 +194,9 @@ fn add_formal(
     Ok(())
 }
 
-/// The type of a class, with its bounds for its parameters, and with `$OB` for those that have none. There is none where a bound names
-/// a parameter.
-fn at_bounds(alloc: Global, class: &Class) -> Result<Option<Ty>, NoMemory> {
+/// The type of a class with its bounds as type arguments, and with `$OB` for those parameters that have none. `None` where a bound names a
+/// parameter.
+fn at_bounds(alloc: Global, class: &Class) -> Result<Option<Ty>, Failure> {
     let tops = tops(alloc, class.params.as_slice())?;
     let mut args = Items::new(alloc);
     for (param, top) in class.params.as_slice().iter().zip(tops.as_slice().iter()) {
@@ -206,8 +210,8 @@ fn at_bounds(alloc: Global, class: &Class) -> Result<Option<Ty>, NoMemory> {
     Ok(Some(Ty::Named(name, args, class.name.pos)))
 }
 
-/// `$OB` for each of these parameters, at its place.
-fn tops(alloc: Global, params: &[TypeParam]) -> Result<Items<Ty>, NoMemory> {
+/// `$OB` for each of these parameters, at its position.
+fn tops(alloc: Global, params: &[TypeParam]) -> Result<Items<Ty>, Failure> {
     let mut tops = Items::new(alloc);
     for param in params {
         let name = Name::from_slice(alloc, b"$OB")?;
@@ -224,13 +228,13 @@ fn bound_or<'a>(param: &'a TypeParam, top: &'a Ty) -> &'a Ty {
     }
 }
 
-/// Whether a type is another one once `$OB` stands for each of these parameters.
+/// Whether a type is another one once `$OB` is substituted for each of these parameters.
 fn names_parameter(
     alloc: Global,
     ty: &Ty,
     params: &[TypeParam],
     tops: &[Ty],
-) -> Result<bool, NoMemory> {
+) -> Result<bool, Failure> {
     let same = Ty::Same(Pos {
         file: PRELUDE,
         at: 0,

@@ -1,24 +1,28 @@
 //! The signatures of the abstract types, each with its implementations.
 
-use sa_ast::{NoMemory, Pos, held};
-use sa_check_choice::member_target;
+use failure::{Failure, Invariant, known};
+use sa_ast::Pos;
+use sa_check_calls::member_target;
 use sa_conformance::{ConformingMember, Signatures};
 use sa_instantiate::Instances;
 use sa_typed::{TypedImplementation, TypedSignature};
 use sqlite_items::Items;
 use std::alloc::Global;
 
-/// The signatures in order, where `implementations` has for each of them the members that conform to it, by rising number
+/// The signatures in order, where `implementations` has for each of them the members that conform to it, in ascending order of the numbers
 /// of their types.
 pub(crate) fn program_signatures(
     alloc: Global,
     program: &Instances<'_>,
     signatures: &Signatures,
     implementations: &[Items<ConformingMember>],
-) -> Result<Items<TypedSignature>, NoMemory> {
+) -> Result<Items<TypedSignature>, Failure> {
     let mut cores = Items::new(alloc);
     for place in 0..signatures.count() {
-        let found = held(implementations.get(place as usize))?;
+        let found = known(
+            implementations.get(place as usize),
+            Invariant::CheckedNumber,
+        )?;
         cores.push(program_signature(alloc, program, signatures, place, found.as_slice())?)?;
     }
     Ok(cores)
@@ -31,12 +35,15 @@ fn program_signature(
     signatures: &Signatures,
     place: u32,
     found: &[ConformingMember],
-) -> Result<TypedSignature, NoMemory> {
-    let origin = held(signatures.origin(place))?;
+) -> Result<TypedSignature, Failure> {
+    let origin = known(signatures.origin(place), Invariant::CheckedNumber)?;
     let mut impls = Items::new(alloc);
     for implementation in found {
         let ty = implementation.ty;
-        let target = held(member_target(program, ty, implementation.member))?;
+        let target = known(
+            member_target(program, ty, implementation.member),
+            Invariant::CheckedNumber,
+        )?;
         impls.push(TypedImplementation { ty, target })?;
     }
     Ok(TypedSignature {
@@ -51,9 +58,15 @@ pub(crate) fn sig_pos(
     program: &Instances<'_>,
     signatures: &Signatures,
     place: u32,
-) -> Result<Pos, NoMemory> {
-    let origin = held(signatures.origin(place))?;
-    let member = held(program.member(origin.from, origin.member))?;
-    let feature = held(program.feature(origin.from, member.feature))?;
+) -> Result<Pos, Failure> {
+    let origin = known(signatures.origin(place), Invariant::CheckedNumber)?;
+    let member = known(
+        program.member(origin.from, origin.member),
+        Invariant::CheckedNumber,
+    )?;
+    let feature = known(
+        program.feature(origin.from, member.feature),
+        Invariant::CheckedNumber,
+    )?;
     Ok(feature.name.pos)
 }

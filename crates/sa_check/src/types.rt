@@ -1,22 +1,22 @@
-//! What the typed tree says of each type.
+//! The types of a typed program.
 
 use crate::bound_supertypes::BoundTypeIndex;
 use crate::class_supertypes::universal_supertypes;
+use failure::{Failure, Invariant, known};
 use indexmap::IndexMap;
-use sa_ast::{ClassKind, NoMemory, Ty, held};
+use sa_ast::{ClassKind, Ty};
 use sa_instantiate::Instances;
 use sa_typed::TypeDef;
 use sqlite_items::Items;
 use std::alloc::Global;
 
-/// The types of a program: the needed ones with the abstract types that they are below, and behind them the bound types
-/// that binds make.
+/// The types of a program: the needed ones with their abstract supertypes, and after them the bound types that binds make.
 pub(crate) fn type_infos(
     alloc: Global,
     program: &Instances<'_>,
     bound: &IndexMap<Ty, ()>,
     above: Vec<Items<u32>>,
-) -> Result<Items<TypeDef>, NoMemory> {
+) -> Result<Items<TypeDef>, Failure> {
     let shapes = bound_shapes(alloc, program, bound)?;
     let mut infos = Items::new(alloc);
     add_needed(alloc, program, &shapes, above, &mut infos)?;
@@ -24,66 +24,70 @@ pub(crate) fn type_infos(
     Ok(infos)
 }
 
-/// Puts the needed types at the end.
+/// Appends the needed types.
 fn add_needed(
     alloc: Global,
     program: &Instances<'_>,
     shapes: &BoundTypeIndex<'_>,
     above: Vec<Items<u32>>,
     infos: &mut Items<TypeDef>,
-) -> Result<(), NoMemory> {
+) -> Result<(), Failure> {
     let mut number = 0u32;
     for uppers in above {
         infos.push(needed_info(alloc, program, shapes, number, uppers)?)?;
-        number = held(number.checked_add(1))?;
+        number = known(number.checked_add(1), Invariant::CheckedCount)?;
     }
     Ok(())
 }
 
-/// Puts the bound types that binds make at the end.
+/// Appends the bound types that binds make.
 fn add_bound(
     alloc: Global,
     program: &Instances<'_>,
     shapes: &BoundTypeIndex<'_>,
     bound: &IndexMap<Ty, ()>,
     infos: &mut Items<TypeDef>,
-) -> Result<(), NoMemory> {
+) -> Result<(), Failure> {
     let uppers = universal_supertypes(alloc, program)?;
     let mut number = program.count();
     for place in 0..bound.len() {
-        let (ty, _) = held(bound.get_index(place))?;
+        let (ty, _) = known(bound.get_index(place), Invariant::CheckedNumber)?;
         infos.push(bound_info(alloc, program, shapes, number, ty, uppers.as_slice())?)?;
-        number = held(number.checked_add(1))?;
+        number = known(number.checked_add(1), Invariant::CheckedCount)?;
     }
     Ok(())
 }
 
-/// All bound types by their shapes.
+/// All bound types by their keys.
 fn bound_shapes<'a>(
     alloc: Global,
     program: &'a Instances<'_>,
     bound: &'a IndexMap<Ty, ()>,
-) -> Result<BoundTypeIndex<'a>, NoMemory> {
+) -> Result<BoundTypeIndex<'a>, Failure> {
     let mut shapes = BoundTypeIndex::new(alloc);
     for number in 0..program.count() {
-        shapes.add(alloc, number, held(program.ty(number))?)?;
+        shapes.add(
+            alloc,
+            number,
+            known(program.ty(number), Invariant::CheckedNumber)?,
+        )?;
     }
     add_bound_shapes(alloc, program.count(), bound, &mut shapes)?;
     Ok(shapes)
 }
 
-/// Puts the bound types that binds make, whose numbers begin at `first`, behind those of their shapes.
+/// Adds the bound types that binds make, whose numbers begin at `first`, after those with their keys.
 fn add_bound_shapes<'a>(
     alloc: Global,
     first: u32,
     bound: &'a IndexMap<Ty, ()>,
     shapes: &mut BoundTypeIndex<'a>,
-) -> Result<(), NoMemory> {
+) -> Result<(), Failure> {
     let mut number = first;
     for place in 0..bound.len() {
-        let (ty, _) = held(bound.get_index(place))?;
+        let (ty, _) = known(bound.get_index(place), Invariant::CheckedNumber)?;
         shapes.add(alloc, number, ty)?;
-        number = held(number.checked_add(1))?;
+        number = known(number.checked_add(1), Invariant::CheckedCount)?;
     }
     Ok(())
 }
@@ -95,8 +99,8 @@ fn needed_info(
     shapes: &BoundTypeIndex<'_>,
     number: u32,
     uppers: Items<u32>,
-) -> Result<TypeDef, NoMemory> {
-    let ty = held(program.ty(number))?;
+) -> Result<TypeDef, Failure> {
+    let ty = known(program.ty(number), Invariant::CheckedNumber)?;
     let Some(class) = program.class(number) else {
         return bound_info(alloc, program, shapes, number, ty, uppers.as_slice());
     };
@@ -104,7 +108,7 @@ fn needed_info(
     Ok(TypeDef {
         ty: ty.copy(alloc)?,
         kind: class.kind,
-        slots: held(u32::try_from(attrs.len()).ok())?,
+        slots: known(u32::try_from(attrs.len()).ok(), Invariant::CheckedCount)?,
         attrs,
         array: program.has_array(number),
         elem: program.element(number),
@@ -117,12 +121,12 @@ fn attribute_types(
     alloc: Global,
     program: &Instances<'_>,
     number: u32,
-) -> Result<Items<u32>, NoMemory> {
+) -> Result<Items<u32>, Failure> {
     let mut types = Items::new(alloc);
     let mut slot = 0u32;
     for _feature in program.slots(number) {
-        types.push(held(program.slot_type(number, slot))?)?;
-        slot = held(slot.checked_add(1))?;
+        types.push(known(program.slot_type(number, slot), Invariant::CheckedNumber)?)?;
+        slot = known(slot.checked_add(1), Invariant::CheckedCount)?;
     }
     Ok(types)
 }
@@ -135,7 +139,7 @@ fn bound_info(
     number: u32,
     ty: &Ty,
     uppers: &[u32],
-) -> Result<TypeDef, NoMemory> {
+) -> Result<TypeDef, Failure> {
     let mut above = shapes.above(alloc, program.edges(), number, ty)?;
     above.extend_from_slice(uppers)?;
     above.sort_unstable();

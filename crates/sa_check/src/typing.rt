@@ -3,8 +3,9 @@
 use crate::feature_refusals::Diagnostics;
 use crate::limits::{MOST_PAIRS, Size};
 use crate::sigs::sig_pos;
+use failure::{Failure, Invariant, known};
 use indexmap::IndexMap;
-use sa_ast::{ClassKind, Feature, FeatureBody, NoMemory, Rejection, Rule, held};
+use sa_ast::{ClassKind, Feature, FeatureBody, Rejection, Rule};
 use sa_check_expr::{BodyOutput, CheckTables};
 use sa_check_stmt::{body, shared_body};
 use sa_conformance::Signatures;
@@ -40,11 +41,11 @@ impl Typing {
     }
 }
 
-/// The features and the shareds of a program, typed, where `above` has the abstract types above each needed type.
+/// The features and the shareds of a program, typed, where `above` has the abstract supertypes of each needed type.
 ///
-/// They are refused type by type: by the rules of bodies, then with E55 where the program is too large; an abstract type
-/// with E56 where there are too many dispatch pairs. The refusals of bodies are put to those that are `refused`, and the first one
-/// is the last where no more are looked for.
+/// They are refused type by type: by the rules of bodies, then with E55 where the program is too large; an abstract type with E56 where
+/// there are too many dispatch pairs. The refusals of bodies are added to `refused`, and checking ends with the first one where no more are
+/// looked for.
 pub(crate) fn typed_bodies<'a>(
     alloc: Global,
     program: &'a Instances<'_>,
@@ -68,24 +69,24 @@ pub(crate) fn typed_bodies<'a>(
     Ok(typing)
 }
 
-/// By needed type, the number of concrete class types below it.
+/// By needed type, the number of its concrete class subtypes.
 fn concrete_below(
     alloc: Global,
     program: &Instances<'_>,
     above: &[Items<u32>],
-) -> Result<Vec<u32>, NoMemory> {
+) -> Result<Vec<u32>, Failure> {
     let mut below = vec![in alloc; 0u32; above.len()]?;
     let mut ty = 0u32;
     for uppers in above {
         if is_concrete_class(program, ty) {
             count_below(below.as_mut_slice(), uppers.as_slice());
         }
-        ty = held(ty.checked_add(1))?;
+        ty = known(ty.checked_add(1), Invariant::CheckedCount)?;
     }
     Ok(below)
 }
 
-/// Whether a type is a class of values, and no bound type.
+/// Whether a type is a concrete class, and no bound type.
 fn is_concrete_class(program: &Instances<'_>, ty: u32) -> bool {
     match program.class(ty) {
         None => false,
@@ -93,7 +94,7 @@ fn is_concrete_class(program: &Instances<'_>, ty: u32) -> bool {
     }
 }
 
-/// Counts one type below each of the types with these numbers.
+/// Counts one subtype for each of the types with these numbers.
 fn count_below(below: &mut [u32], uppers: &[u32]) {
     for upper in uppers {
         let at = *upper as usize;
@@ -114,7 +115,7 @@ fn type_instance(
         return Ok(());
     };
     if class.kind == ClassKind::Abstract {
-        let types = held(below.get(view.class as usize))?;
+        let types = known(below.get(view.class as usize), Invariant::CheckedNumber)?;
         return count_pairs(view, typing, *types);
     }
     for f in class.features.as_slice() {

@@ -1,4 +1,4 @@
-//! Calls: what is called is chosen by the types of the arguments, and the arguments go to the types of its parameters.
+//! Calls: the callee is resolved by the types of the arguments, and the arguments are assigned to the types of its parameters.
 
 use crate::const_call::const_call;
 use crate::iter::{innermost_loop, is_iter_name, iter_call};
@@ -6,16 +6,17 @@ use crate::leaving::LeavingCall;
 use crate::passing::{PassedArgs, actual_args, pass_args};
 use crate::receiver::Receiver;
 use crate::synthesised::{Synthesised, SynthesisedArg, only_argument};
-use sa_ast::{ExprReceiver, Name, NoMemory, Pos, Rejection, Rule};
-use sa_check_choice::{
+use crate::{
     BodyOutput, CheckContext, CheckTables, CheckedExpr, ChosenFeature, Expected, Resolved,
     bound_callee, bound_name, first_iter, resolve_call,
 };
+use failure::Failure;
+use sa_ast::{ExprReceiver, Name, Pos, Rejection, Rule};
 use sa_typed::{TypedCallee, TypedExpr};
 use sqlite_items::Boxed;
 use std::alloc::Global;
 
-/// A call by name, with what it is made on and its arguments typed. It stands at `pos`.
+/// A call by name at `pos`, whose receiver and arguments are typed.
 #[derive(Drop)]
 pub struct Call<'n> {
     pub on: Receiver,
@@ -32,7 +33,7 @@ impl<'n> Call<'n> {
         name: &'n [u8],
         value: Synthesised,
         pos: Pos,
-    ) -> Result<Call<'n>, NoMemory> {
+    ) -> Result<Call<'n>, Failure> {
         Ok(Call {
             on,
             name,
@@ -42,7 +43,7 @@ impl<'n> Call<'n> {
     }
 }
 
-/// What is written of a call by name: what it is made on, the name, and its position.
+/// The head of a call by name, as it is written: the receiver, the name, and its position.
 #[derive(Clone, Copy)]
 pub struct CallHead<'e> {
     pub on: &'e ExprReceiver,
@@ -50,8 +51,8 @@ pub struct CallHead<'e> {
     pub pos: Pos,
 }
 
-/// A call by name that is no variable, with what stands inside it typed. `while!`, `until!` and `break!` give no result, so
-/// that as expressions they are refused: E35, E38, E31.
+/// A call by name that is no variable, with its subexpressions typed. `while!`, `until!` and `break!` give no result, so that as
+/// expressions they are refused: E35, E38, E31.
 pub fn call_form(
     context: CheckContext<'_>,
     built: &mut BodyOutput,
@@ -75,15 +76,15 @@ pub fn call_form(
     typed_call(context, built, form, expected)
 }
 
-/// A call by name, at a place that expects a result or none. It is refused at its position:
+/// A call by name, in a context that expects a result or none. It is refused at its position:
 ///
-/// - E35, E38: an iter call stands outside a loop, or a protect stands between it and its loop.
-/// - E41: what it is made on is contextual. E12: it is made on a class that isn't concrete.
+/// - E35, E38: an iter call is outside a loop, or a protect is between it and its loop.
+/// - E41: the receiver is contextual. E12: the receiver is a class that isn't concrete.
 /// - As `resolve_call` refuses, or on a bound value E30 and E31.
 /// - E31: a contextual argument has another type than its parameter.
-/// - E36, at the first iter call in the self or an argument of a `once` parameter of an iter call.
+/// - E36, at the first iter call in the receiver or an argument of a `once` parameter of an iter call.
 ///
-/// A contextual argument is refused by its own rules where it doesn't go to the type of its parameter.
+/// A contextual argument is refused by its own rules where it isn't assignable to the type of its parameter.
 pub fn typed_call(
     context: CheckContext<'_>,
     built: &mut BodyOutput,
@@ -124,7 +125,7 @@ fn plain_call(
     }
 }
 
-/// The call of what is reached, whose result has the type `ty`.
+/// The call of a callee, whose result has the type `ty`.
 pub(crate) fn called_value(
     alloc: Global,
     called: TypedCallee,
@@ -132,7 +133,7 @@ pub(crate) fn called_value(
     passed: PassedArgs,
     ty: Option<u32>,
     pos: Pos,
-) -> Result<CheckedExpr, NoMemory> {
+) -> Result<CheckedExpr, Failure> {
     let PassedArgs {
         args,
         iter,
@@ -147,8 +148,7 @@ pub(crate) fn called_value(
     })
 }
 
-/// What a call reaches, by the types of what it is made on and of its arguments. On a bound value E30 of another name than
-/// that of its kind.
+/// What a call resolves to, by the types of its receiver and of its arguments. On a bound value E30 where the name isn't that of its kind.
 pub(crate) fn callee(
     view: &CheckTables<'_>,
     built: &BodyOutput,
@@ -167,7 +167,7 @@ pub(crate) fn callee(
     bound_callee(view, built, of, seen.as_slice(), pos, expected)
 }
 
-/// The name by which a bound value is called, where a call is made on one.
+/// The name by which a bound value is called, where the receiver of a call is one.
 fn value_name(
     view: &CheckTables<'_>,
     built: &BodyOutput,

@@ -1,14 +1,15 @@
-//! Contextual forms checked against the type that their place expects.
+//! Contextual forms checked against the type that their context expects.
 
 use crate::calls::called_value;
 use crate::passing::{PassedArgs, actual_args, pass_args};
 use crate::receiver::Receiver;
 use crate::synthesised::{Synthesised, SynthesisedArg};
-use sa_ast::{NoMemory, Pos, Rejection, Rule, Ty, held};
-use sa_check_choice::{
+use crate::{
     BodyOutput, CheckTables, CheckedExpr, ChosenFeature, Expected, Resolved, boxed, first_iter,
     is_concrete, is_sub, number_of, resolve_call, type_of,
 };
+use failure::{Failure, Invariant, known};
+use sa_ast::{Pos, Rejection, Rule, Ty};
 use sa_typed::TypedExpr;
 use sqlite_items::Items;
 use std::alloc::Global;
@@ -16,7 +17,7 @@ use std::alloc::Global;
 /// The class of array literals.
 const ARRAY: &[u8] = b"ARRAY";
 
-/// An expression checked against the type that its place expects. One that has a type by itself keeps it.
+/// An expression checked against the type that its context expects. One that has a type by itself keeps it.
 #[cycle(check)]
 pub fn check_value(
     view: &CheckTables<'_>,
@@ -59,7 +60,7 @@ fn create(
     Ok(made(view.alloc, chosen, on, passed, pos)?)
 }
 
-/// What `#(..)` without a type calls `create` on: nothing that has a type, unless a concrete one is expected.
+/// The receiver on which `#(..)` without a type calls `create`: nothing that has a type, unless a concrete one is expected.
 fn created(view: &CheckTables<'_>, expected: Expected) -> Receiver {
     match expected {
         Expected::Type(class) if is_concrete(view, class) => Receiver::Class(class),
@@ -67,7 +68,7 @@ fn created(view: &CheckTables<'_>, expected: Expected) -> Receiver {
     }
 }
 
-/// The `create` that is chosen.
+/// The `create` that the call resolves to.
 fn created_by(
     view: &CheckTables<'_>,
     built: &BodyOutput,
@@ -87,7 +88,7 @@ fn made(
     on: Receiver,
     passed: PassedArgs,
     pos: Pos,
-) -> Result<CheckedExpr, NoMemory> {
+) -> Result<CheckedExpr, Failure> {
     let ChosenFeature {
         resolved: reached,
         params: _params,
@@ -111,7 +112,7 @@ pub(crate) struct CheckedValue {
     pub iter: Option<Pos>,
 }
 
-/// An expression as a value of the type that its place expects, to which it is widened.
+/// An expression as a value of the type that its context expects, boxed where that is needed.
 #[cycle(check)]
 pub(crate) fn checked_to(
     view: &CheckTables<'_>,
@@ -121,12 +122,12 @@ pub(crate) fn checked_to(
 ) -> Result<CheckedValue, Rejection> {
     let pos = synthesised.pos();
     let CheckedExpr { core, ty, iter } = check_value(view, built, synthesised, Expected::Type(to))?;
-    let from = held(ty)?;
+    let from = known(ty, Invariant::CheckedNumber)?;
     let core = boxed(view, core, from, to, pos)?;
     Ok(CheckedValue { core, from, iter })
 }
 
-/// An array literal: E41 unless an array is expected, and E33 unless each element goes to the type of its elements.
+/// An array literal: E41 unless an array is expected, and E33 unless each element is assignable to the type of its elements.
 #[cycle(check)]
 fn array(
     view: &CheckTables<'_>,
@@ -155,7 +156,7 @@ struct ArrayElements {
     cores: Items<TypedExpr>,
     /// The first iter call in them.
     iter: Option<Pos>,
-    /// Whether each goes to the type of the array's elements.
+    /// Whether each is assignable to the type of the array's elements.
     go: bool,
 }
 
@@ -181,7 +182,7 @@ fn elements(
 }
 
 impl ArrayElements {
-    fn add(&mut self, value: CheckedValue) -> Result<(), NoMemory> {
+    fn add(&mut self, value: CheckedValue) -> Result<(), Failure> {
         let CheckedValue {
             core,
             from: _from,

@@ -1,11 +1,11 @@
-//! A call that chooses a const is its value.
+//! A call that resolves to a const is its value.
 
 use crate::receiver::Receiver;
-use sa_check_choice::{BodyOutput, CheckedExpr};
+use crate::{BodyOutput, CheckedExpr};
 use sa_typed::TypedExpr;
 
-/// A const in place of the call that names it. What it is called on isn't evaluated, so the sites that typing it made are
-/// taken out again; the bound types that its binds made stay.
+/// A const in place of the call that names it. The receiver isn't evaluated, so the sites that typing it made are removed again; the bound
+/// types that its binds made are kept.
 pub(crate) fn const_call(
     built: &mut BodyOutput,
     on: Receiver,

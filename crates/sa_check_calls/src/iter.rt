@@ -3,11 +3,12 @@
 use crate::calls::{Call, callee};
 use crate::passing::{PassedArgs, pass_args};
 use crate::receiver::Receiver;
-use sa_ast::{NoMemory, Pos, Rejection, Rule, held};
-use sa_check_choice::{
+use crate::{
     BodyOutput, CheckContext, CheckScope, CheckTables, CheckedExpr, ChosenFeature, Expected,
     first_iter,
 };
+use failure::{Failure, Invariant, known};
+use sa_ast::{Pos, Rejection, Rule};
 use sa_typed::{Site, TypedExpr};
 use sqlite_items::Boxed;
 use std::alloc::Global;
@@ -17,8 +18,7 @@ pub fn is_iter_name(name: &[u8]) -> bool {
     matches!(name, [.., b'!'])
 }
 
-/// The number of the loop that an iter call belongs to: E35 outside a loop, and E38 where a protect stands between the call
-/// and its loop.
+/// The number of the loop that an iter call belongs to: E35 outside a loop, and E38 where a protect is between the call and its loop.
 pub(crate) fn innermost_loop(place: &CheckScope, pos: Pos) -> Result<u32, Rejection> {
     let Some(owner) = place.owner else {
         return Err(Rule::IterOutsideLoop.at(pos).into());
@@ -29,7 +29,7 @@ pub(crate) fn innermost_loop(place: &CheckScope, pos: Pos) -> Result<u32, Reject
     Ok(owner)
 }
 
-/// An iter call, which is no head of a bind. It is refused as `call` says.
+/// An iter call that isn't the head of a bind. It is refused as `call` says.
 pub(crate) fn iter_call(
     context: CheckContext<'_>,
     built: &mut BodyOutput,
@@ -41,7 +41,7 @@ pub(crate) fn iter_call(
     in_loop(context.view, built, form, callee, owner)
 }
 
-/// The iter call of what is chosen, in the loop with the number `owner`.
+/// The iter call of a callee, in the loop with the number `owner`.
 fn in_loop(
     view: &CheckTables<'_>,
     built: &mut BodyOutput,
@@ -49,7 +49,7 @@ fn in_loop(
     callee: ChosenFeature,
     owner: u32,
 ) -> Result<CheckedExpr, Rejection> {
-    let called = held(callee.resolved.called())?;
+    let called = known(callee.resolved.called(), Invariant::CheckedNumber)?;
     let Call {
         on,
         name: _name,
@@ -86,7 +86,7 @@ fn iter_value(
     passed: PassedArgs,
     ty: Option<u32>,
     pos: Pos,
-) -> Result<CheckedExpr, NoMemory> {
+) -> Result<CheckedExpr, Failure> {
     let PassedArgs {
         args,
         iter: _iter,
@@ -101,8 +101,11 @@ fn iter_value(
 }
 
 /// The number of a new site.
-fn new_site(built: &mut BodyOutput, site: Site) -> Result<u32, NoMemory> {
-    let number = held(u32::try_from(built.sites.len()).ok())?;
+fn new_site(built: &mut BodyOutput, site: Site) -> Result<u32, Failure> {
+    let number = known(
+        u32::try_from(built.sites.len()).ok(),
+        Invariant::CheckedCount,
+    )?;
     built.sites.push(site)?;
     Ok(number)
 }

@@ -1,14 +1,14 @@
-//! `while!`, `until!` and `break!`, which leave the innermost loop and are built in.
+//! `while!`, `until!` and `break!`, which exit the innermost loop and are built in.
 
 use crate::checking::check_value;
 use crate::iter::innermost_loop;
 use crate::synthesised::SynthesisedArg;
+use crate::{BodyOutput, CheckContext, CheckTables, Expected};
 use sa_ast::{ExprReceiver, Name, Pos, Rejection, Rule};
-use sa_check_choice::{BodyOutput, CheckContext, CheckTables, Expected};
 use sa_instantiate::BOOL;
 use sa_typed::{LoopExit, TypedExpr, TypedStmt};
 
-/// A call that leaves the innermost loop.
+/// A call that exits the innermost loop.
 #[derive(Clone, Copy, Debug, PartialEq, Eq)]
 pub enum LeavingCall {
     Break,
@@ -17,7 +17,7 @@ pub enum LeavingCall {
 }
 
 impl LeavingCall {
-    /// The one of this name, where the call is made on nothing that is written.
+    /// The one of this name, where no receiver is written.
     pub fn of_name(name: &Name) -> Option<LeavingCall> {
         match name.as_slice() {
             b"break!" => Some(LeavingCall::Break),
@@ -27,7 +27,7 @@ impl LeavingCall {
         }
     }
 
-    /// The one that a call is, by what it is made on and its name.
+    /// The one that a call is, by its receiver and its name.
     pub fn of_call(on: &ExprReceiver, name: &Name) -> Option<LeavingCall> {
         match on {
             ExprReceiver::Implied => LeavingCall::of_name(name),
@@ -36,10 +36,9 @@ impl LeavingCall {
     }
 }
 
-/// The statement that leaves the innermost loop, with its arguments typed: the test of `while!` and `until!`. It is refused
-/// at `pos`:
+/// The statement that exits the innermost loop, with its arguments typed: the test of `while!` and `until!`. It is refused at `pos`:
 ///
-/// - E35, E38: it stands outside a loop, or a protect stands between it and its loop.
+/// - E35, E38: it is outside a loop, or a protect is between it and its loop.
 /// - E31: `break!` has an argument, or another one hasn't exactly one.
 /// - E33: its argument isn't a BOOL.
 pub fn leave_form(

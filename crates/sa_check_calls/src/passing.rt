@@ -1,19 +1,20 @@
-//! The arguments of a call: what the choice sees of them, and what they are at the parameters of what is chosen.
+//! The arguments of a call: as overload resolution sees them, and as they are passed to the parameters of the callee.
 
 use crate::checking::checked_to;
 use crate::synthesised::{Synthesised, SynthesisedArg};
-use sa_ast::{Mode, NoMemory, Pos, Rejection, Rule, Ty, held};
-use sa_check_choice::{BodyOutput, CheckTables, ChosenParam, first_iter, type_of};
+use crate::{BodyOutput, CheckTables, ChosenParam, first_iter, type_of};
+use failure::{Failure, Invariant, known};
+use sa_ast::{Mode, Pos, Rejection, Rule, Ty};
 use sa_overload::ActualArg;
 use sa_typed::TypedArg;
 use sqlite_items::Items;
 
-/// What the choice sees of the arguments of a call. A contextual one has no type yet.
+/// The arguments of a call as overload resolution sees them. A contextual one has no type yet.
 pub fn actual_args(
     view: &CheckTables<'_>,
     built: &BodyOutput,
     args: &[SynthesisedArg],
-) -> Result<Items<ActualArg>, NoMemory> {
+) -> Result<Items<ActualArg>, Failure> {
     let mut seen = Items::new(view.alloc);
     for arg in args {
         seen.push(seen_argument(view, built, arg)?)?;
@@ -25,7 +26,7 @@ fn seen_argument(
     view: &CheckTables<'_>,
     built: &BodyOutput,
     arg: &SynthesisedArg,
-) -> Result<ActualArg, NoMemory> {
+) -> Result<ActualArg, Failure> {
     let ty = seen_type(view, built, own_type(arg)?)?;
     Ok(ActualArg {
         mode: arg.mode(),
@@ -35,9 +36,12 @@ fn seen_argument(
 }
 
 /// The number of the type that an argument has by itself, if it has one.
-fn own_type(arg: &SynthesisedArg) -> Result<Option<u32>, NoMemory> {
+fn own_type(arg: &SynthesisedArg) -> Result<Option<u32>, Failure> {
     match arg {
-        SynthesisedArg::Value(Synthesised::Typed(value, _)) => Ok(Some(held(value.ty)?)),
+        SynthesisedArg::Value(Synthesised::Typed(value, _)) => Ok(Some(known(
+            value.ty,
+            Invariant::CheckedNumber,
+        )?)),
         SynthesisedArg::Value(_) => Ok(None),
         SynthesisedArg::Variable(_, variable) => Ok(Some(variable.ty)),
         SynthesisedArg::Open(ty) => Ok(*ty),
@@ -49,14 +53,16 @@ fn seen_type(
     view: &CheckTables<'_>,
     built: &BodyOutput,
     number: Option<u32>,
-) -> Result<Option<Ty>, NoMemory> {
+) -> Result<Option<Ty>, Failure> {
     match number {
         None => Ok(None),
-        Some(number) => Ok(Some(held(type_of(view, built, number))?.copy(view.alloc)?)),
+        Some(number) => Ok(Some(known(type_of(view, built, number), Invariant::CheckedNumber)?.copy(
+            view.alloc,
+        )?)),
     }
 }
 
-/// The arguments of a call at their parameters.
+/// The arguments of a call, passed to their parameters.
 #[derive(Drop)]
 pub struct PassedArgs {
     pub args: Items<TypedArg>,
@@ -66,7 +72,7 @@ pub struct PassedArgs {
     pub once: Option<Pos>,
 }
 
-/// An argument at its parameter.
+/// An argument, passed to its parameter.
 #[derive(Drop)]
 struct PassedArg {
     arg: TypedArg,
@@ -76,7 +82,7 @@ struct PassedArg {
 }
 
 impl PassedArgs {
-    fn add(&mut self, passed: PassedArg, mode: Mode) -> Result<(), NoMemory> {
+    fn add(&mut self, passed: PassedArg, mode: Mode) -> Result<(), Failure> {
         let PassedArg {
             arg,
             iter,
@@ -91,8 +97,8 @@ impl PassedArgs {
     }
 }
 
-/// The arguments of a call at the parameters of what it chose, contextual ones from left to right. A contextual one that
-/// has another type than its parameter doesn't fit any more: E31 at the call.
+/// The arguments of a call, passed to the parameters of the callee to which it resolved, contextual ones from left to right. A contextual
+/// one that has another type than its parameter doesn't fit any more: E31 at the call.
 #[cycle(check)]
 pub fn pass_args(
     view: &CheckTables<'_>,
@@ -108,7 +114,7 @@ pub fn pass_args(
     };
     let mut fit = true;
     for arg in args {
-        let param = *held(params.get(all.args.len()))?;
+        let param = *known(params.get(all.args.len()), Invariant::CheckedNumber)?;
         let passed = passed_argument(view, built, arg, param)?;
         fit = fit && passed.fits;
         all.add(passed, param.mode)?;

@@ -1,14 +1,15 @@
-//! What a call is made on.
+//! The receiver of a call.
 
 use crate::synthesised::Synthesised;
-use sa_ast::{NoMemory, Pos, Rejection, Rule, held};
-use sa_check_choice::{CheckTables, CheckedExpr, is_concrete};
+use crate::{CheckTables, CheckedExpr, is_concrete};
+use failure::{Failure, Invariant, broken, known};
+use sa_ast::{Pos, Rejection, Rule};
 use sa_typed::TypedExpr;
 
-/// What a call is made on, its children typed.
+/// The receiver of a call, its children typed.
 #[derive(Drop)]
 pub enum Receiver {
-    /// The feature's own self.
+    /// The feature's own `self`.
     Own,
     /// A value, with the number of sites before it was typed.
     Value(CheckedExpr, usize),
@@ -19,7 +20,7 @@ pub enum Receiver {
 }
 
 impl Receiver {
-    /// An expression before which there were so many sites.
+    /// An expression, before which there were this many sites.
     pub fn of_value(of: Synthesised, sites: usize) -> Receiver {
         match of {
             Synthesised::Typed(value, _) => Receiver::Value(value, sites),
@@ -27,11 +28,11 @@ impl Receiver {
         }
     }
 
-    /// The number of the type that the call is made on: E41 of a contextual form, E12 of a class that isn't concrete.
+    /// The number of the receiver's type: E41 for a contextual form, E12 for a class that isn't concrete.
     pub fn ty(&self, view: &CheckTables<'_>, pos: Pos) -> Result<u32, Rejection> {
         match self {
             Receiver::Own => Ok(view.class),
-            Receiver::Value(value, _) => Ok(held(value.ty)?),
+            Receiver::Value(value, _) => Ok(known(value.ty, Invariant::CheckedNumber)?),
             Receiver::Class(class) if is_concrete(view, *class) => Ok(*class),
             Receiver::Class(_) => Err(Rule::ClassNotUsable.at(pos).into()),
             Receiver::Untyped => Err(Rule::NoTypeFromContext.at(pos).into()),
@@ -46,13 +47,13 @@ impl Receiver {
         }
     }
 
-    /// The self that the call gets.
-    pub fn into_expr(self) -> Result<TypedExpr, NoMemory> {
+    /// The `self` that is passed to the callee.
+    pub fn into_expr(self) -> Result<TypedExpr, Failure> {
         match self {
             Receiver::Own => Ok(TypedExpr::SelfRef),
             Receiver::Value(value, _) => Ok(value.core),
             Receiver::Class(class) => Ok(TypedExpr::VoidValue(class)),
-            Receiver::Untyped => Err(NoMemory),
+            Receiver::Untyped => broken(Invariant::ExcludedForm),
         }
     }
 }

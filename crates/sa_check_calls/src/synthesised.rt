@@ -1,16 +1,17 @@
-//! What typing gives of a form before the type that its place expects is known.
+//! What typing a form gives before the type that its context expects is known.
 //!
-//! `void`, `#(..)` without a type and an array literal are contextual: they take the type that their place expects, which may
-//! be known only once the form around them is chosen. What they hold is typed at its place all the same, and the contextual
-//! form alone waits for its type.
+//! `void`, `#(..)` without a type and an array literal are contextual: they take the type that their context expects, which may be known
+//! only once the enclosing call is resolved. Their subexpressions are typed from left to right all the same, and only the contextual form
+//! waits for its type.
 
-use sa_ast::{Mode, NoMemory, Pos};
-use sa_check_choice::{CheckedExpr, Variable};
+use crate::{CheckedExpr, Variable};
+use failure::{Failure, Invariant, broken};
+use sa_ast::{Mode, Pos};
 use sa_typed::TypedExpr;
 use std::alloc::Global;
 
-/// An expression whose children are typed: with the type that it has by itself, or else to be checked against the type that
-/// its place expects.
+/// An expression whose children are typed: with the type that it has by itself, or else to be checked against the type that its context
+/// expects.
 #[cycle(synthesised)]
 #[derive(Drop)]
 pub enum Synthesised {
@@ -70,10 +71,10 @@ impl Synthesised {
     }
 
     /// The expression, where it has a type by itself.
-    pub fn into_expr(self) -> Result<TypedExpr, NoMemory> {
+    pub fn into_expr(self) -> Result<TypedExpr, Failure> {
         match self {
             Synthesised::Typed(value, _) => Ok(value.core),
-            _ => Err(NoMemory),
+            _ => broken(Invariant::ExcludedForm),
         }
     }
 
@@ -84,7 +85,7 @@ impl Synthesised {
 }
 
 /// A value as the only argument of a call. It fails only where memory runs out.
-pub fn only_argument(alloc: Global, value: Synthesised) -> Result<Vec<SynthesisedArg>, NoMemory> {
+pub fn only_argument(alloc: Global, value: Synthesised) -> Result<Vec<SynthesisedArg>, Failure> {
     let mut args = Vec::new(alloc);
     args.push(SynthesisedArg::Value(value))?;
     Ok(args)

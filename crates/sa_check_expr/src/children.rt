@@ -1,16 +1,15 @@
-//! The children of a form, typed from left to right before the form itself. Of a contextual form only the children are typed
-//! here: it waits for the type that its place expects (`Synthesised`).
+//! The children of a form, typed from left to right before the form itself. Of a contextual form only the children are typed here: it waits
+//! for the type that its context expects (`Synthesised`).
 
 use crate::rows::type_expr;
-use sa_ast::{Expr, ExprArg, Mode, Pos, Rejection, Rule, Ty, held};
-use sa_check_calls::{Synthesised, SynthesisedArg};
-use sa_check_choice::{
-    BodyOutput, CheckContext, CheckTables, Expected, Variable, position, variable_named,
-    written_type,
+use failure::{Invariant, known};
+use sa_ast::{Expr, ExprArg, Mode, Pos, Rejection, Rule, Ty};
+use sa_check_calls::{
+    BodyOutput, CheckContext, CheckTables, Expected, Synthesised, SynthesisedArg, Variable,
+    position, variable_named, written_type,
 };
 
-/// Types an expression without the type that its place expects: of a contextual one the children alone. The place expects a
-/// result.
+/// Types an expression without the type that its context expects: of a contextual one only the children. The context expects a result.
 #[cycle(typed)]
 pub fn synthesise(
     context: CheckContext<'_>,
@@ -48,7 +47,7 @@ pub fn synthesise_all(
     Ok(all)
 }
 
-/// What arguments are given to. A bind may leave some of them open.
+/// The form to which arguments belong. A bind may leave some of them open.
 #[derive(Clone, Copy, PartialEq, Eq)]
 pub(crate) enum ArgContext {
     Call,
@@ -73,7 +72,7 @@ pub(crate) fn arguments(
 /// Types an argument. Refused at the argument:
 ///
 /// - E45: it is left open outside the head of a bind.
-/// - E39: the call writes it, and it names no variable. What is refused inside it comes first.
+/// - E39: the call writes it, and it names no variable. Refusals in its subexpressions come first.
 /// - E42: the call writes it, and it is the variable of a typecase in one of its branches.
 #[cycle(typed)]
 fn argument(
@@ -118,6 +117,9 @@ fn open_argument(
     }
     match ty {
         None => Ok(SynthesisedArg::Open(None)),
-        Some(ty) => Ok(SynthesisedArg::Open(Some(held(written_type(view, ty))?))),
+        Some(ty) => Ok(SynthesisedArg::Open(Some(known(
+            written_type(view, ty),
+            Invariant::CheckedNumber,
+        )?))),
     }
 }

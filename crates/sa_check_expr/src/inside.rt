@@ -1,21 +1,22 @@
-//! The row of a form with what stands inside it, typed or refused: of several refusals inside the first one counts.
+//! The typing rule of a form with its subexpressions, each typed or refused: of several refusals in them the first one counts.
 
-use sa_ast::{Expr, Operator, Pos, Rejection, Ty};
-use sa_check_calls::{CallHead, Receiver, Synthesised, SynthesisedArg, call_form, check_value};
-use sa_check_choice::{
-    BodyOutput, CheckContext, CheckTables, CheckedExpr, Expected, character, exception, int,
-    self_ref, text, truth, written_type,
-};
-use sa_check_forms::{
+use crate::{
     OperatorCall, binary, bind_form, create, index, is_void, new_array, new_object, short_circuit,
     unary,
 };
+use failure::{Failure, Invariant};
+use sa_ast::{Expr, Operator, Pos, Rejection, Ty};
+use sa_check_calls::{
+    BodyOutput, CallHead, CheckContext, CheckTables, CheckedExpr, Expected, Receiver, Synthesised,
+    SynthesisedArg, call_form, character, check_value, exception, int, self_ref, text, truth,
+    written_type,
+};
 use std::alloc::Global;
 
-/// What the typing of a part of a form gave.
+/// The result of typing a part of a form.
 type Checked<T> = Result<T, Rejection>;
 
-/// A form that holds no expressions. The others are no such form.
+/// A form without subexpressions. The others are no such form.
 pub(crate) fn without_inside(
     context: CheckContext<'_>,
     built: &BodyOutput,
@@ -31,7 +32,7 @@ pub(crate) fn without_inside(
         Expr::Void(pos) => check_value(context.view, built, Synthesised::Void(*pos), expected),
         Expr::Exception(pos) => exception(context.place, *pos),
         Expr::New(_, pos) => new_object(context.view, *pos),
-        _ => Err(Rejection::NoMemory),
+        _ => Err(Rejection::Failed(Failure::Broken(Invariant::ExcludedForm))),
     }
 }
 
@@ -53,7 +54,7 @@ pub(crate) fn array_object(
     new_array(view, length?, pos)
 }
 
-/// `#(..)` without a type, at the type that its place expects.
+/// `#(..)` without a type, at the type that its context expects.
 pub(crate) fn object_here(
     view: &CheckTables<'_>,
     built: &BodyOutput,
@@ -77,7 +78,7 @@ pub(crate) fn object_of(
     create(context, built, class, args?, pos, expected)
 }
 
-/// An array literal, at the type that its place expects.
+/// An array literal, at the type that its context expects.
 pub(crate) fn array(
     view: &CheckTables<'_>,
     built: &BodyOutput,
@@ -123,7 +124,7 @@ pub(crate) fn operated(
     binary(context, built, operation, left?, right?, expected)
 }
 
-/// `-` and `~` in front of an operand.
+/// `-` and `~` before an operand.
 pub(crate) fn signed(
     context: CheckContext<'_>,
     built: &mut BodyOutput,

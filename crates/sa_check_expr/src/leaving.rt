@@ -2,14 +2,13 @@
 
 use crate::children::{ArgContext, arguments};
 use sa_ast::{Expr, Rejection};
-use sa_check_calls::{LeavingCall, leave_form};
-use sa_check_choice::{BodyOutput, CheckContext};
+use sa_check_calls::{BodyOutput, CheckContext, LeavingCall, leave_form};
 use sa_typed::TypedStmt;
 
-/// The statement that leaves the innermost loop: `break!`, or `while!` or `until!` with their test. None where the expression
-/// is none of them. It is refused at its name, after what is refused inside it:
+/// The statement that exits the innermost loop: `break!`, or `while!` or `until!` with their test. `None` where the expression is none of
+/// them. It is refused at its name, after the refusals in its subexpressions:
 ///
-/// - E35, E38: it stands outside a loop, or a protect stands between it and its loop.
+/// - E35, E38: it is outside a loop, or a protect is between it and its loop.
 /// - E31: `break!` has an argument, or another one hasn't exactly one.
 /// - E33: its argument isn't a BOOL.
 pub fn leave(

@@ -1,15 +1,15 @@
-//! The children of an expression without the expression itself, for a place that its row isn't asked at.
+//! The children of an expression without the expression itself, for a position at which its typing rule isn't applied.
 
 use crate::children::{ArgContext, arguments, synthesise, synthesise_all};
 use crate::inside::{both, done};
 use crate::receiver::receiver_of;
 use crate::rows::type_expr;
 use sa_ast::{Expr, Operator, Rejection};
-use sa_check_choice::{BodyOutput, CheckContext, Expected};
+use sa_check_calls::{BodyOutput, CheckContext, Expected};
 use sa_instantiate::{BOOL, INT};
 
-/// Types the children of an expression from left to right, and not the expression itself. What a bind's head holds are
-/// children of the bind.
+/// Types the children of an expression from left to right, and not the expression itself. The parts of a bind's head are children of the
+/// bind.
 #[cycle(typed)]
 pub fn parts(context: CheckContext<'_>, built: &mut BodyOutput, e: &Expr) -> Result<(), Rejection> {
     match e {

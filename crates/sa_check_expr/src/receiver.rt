@@ -1,11 +1,11 @@
-//! What a call is made on, typed.
+//! The receiver of a call, typed.
 
 use crate::children::synthesise;
-use sa_ast::{Expr, ExprReceiver, Rejection, held};
-use sa_check_calls::Receiver;
-use sa_check_choice::{BodyOutput, CheckContext, written_type};
+use failure::{Invariant, known};
+use sa_ast::{Expr, ExprReceiver, Rejection};
+use sa_check_calls::{BodyOutput, CheckContext, Receiver, written_type};
 
-/// Types what a call by name is made on.
+/// Types the receiver of a call by name.
 #[cycle(typed)]
 pub(crate) fn receiver_of(
     context: CheckContext<'_>,
@@ -15,11 +15,14 @@ pub(crate) fn receiver_of(
     match on {
         ExprReceiver::Implied => Ok(Receiver::Own),
         ExprReceiver::Of(e) => operand(context, built, e.get()),
-        ExprReceiver::OfClass(ty) => Ok(Receiver::Class(held(written_type(context.view, ty))?)),
+        ExprReceiver::OfClass(ty) => Ok(Receiver::Class(known(
+            written_type(context.view, ty),
+            Invariant::CheckedNumber,
+        )?)),
     }
 }
 
-/// Types an expression that a call is made on.
+/// Types an expression that is the receiver of a call.
 #[cycle(typed)]
 pub fn operand(
     context: CheckContext<'_>,

@@ -1,6 +1,7 @@
-//! The row of each form of an expression. Its children are typed first, from left to right, and then the row's conditions
-//! are asked in their order.
+//! The typing rule of each form of an expression. Its children are typed first, from left to right, and then the conditions of the rule are
+//! checked in their order.
 
+use crate::OperatorCall;
 use crate::children::{ArgContext, arguments, synthesise, synthesise_all};
 use crate::inside::{
     array, array_object, bound, called, indexed, joined, object_here, object_of, operated, signed,
@@ -9,11 +10,10 @@ use crate::inside::{
 use crate::part::parts;
 use crate::receiver::{operand, receiver_of};
 use sa_ast::{Expr, Operator, Pos, Rejection, Rule};
-use sa_check_calls::{CallHead, Receiver};
-use sa_check_choice::{
-    BodyOutput, CheckContext, CheckedExpr, Expected, position, variable_named, variable_value,
+use sa_check_calls::{
+    BodyOutput, CallHead, CheckContext, CheckedExpr, Expected, Receiver, position, variable_named,
+    variable_value,
 };
-use sa_check_forms::OperatorCall;
 use sa_instantiate::{BOOL, INT};
 
 /// Whether an operator is `and` or `or`, whose operands are BOOL.
@@ -21,8 +21,8 @@ fn is_of_bool(op: Operator) -> bool {
     op == Operator::And || op == Operator::Or
 }
 
-/// Types an expression, of which its place expects this. The sites of its iter calls and the bound types of its binds are put
-/// into `built`, which may have grown where it is refused.
+/// Types an expression whose context expects this. The sites of its iter calls and the bound types of its binds are added to `built`, which
+/// may have grown where the expression is refused.
 #[cycle(typed)]
 pub fn type_expr(
     context: CheckContext<'_>,

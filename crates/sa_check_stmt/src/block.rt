@@ -1,21 +1,21 @@
-//! `if`, with an entry for each `elsif`.
+//! `if`, with an arm for each `elsif`.
 
 use crate::statement::statements;
+use crate::{BodyState, entry, test};
 use sa_ast::{BranchArm, Pos, Rejection, Rule};
 use sa_check_expr::{BodyOutput, CheckTables};
-use sa_check_simple::{BodyState, entry, test};
 use sa_instantiate::BOOL;
 use sa_typed::{TypedBranch, TypedStmt};
 use sqlite_items::Items;
 
-/// The entries of an `if`, and whether all their tests are BOOLs.
+/// The arms of an `if`, and whether all their tests are BOOLs.
 #[derive(Drop)]
 pub(crate) struct Entries {
     list: Items<TypedBranch>,
     are_bools: bool,
 }
 
-/// The entries of an `if`.
+/// The arms of an `if`.
 #[cycle(statement)]
 pub(crate) fn if_arms(
     view: &CheckTables<'_>,
@@ -32,7 +32,7 @@ pub(crate) fn if_arms(
     Ok(Entries { list, are_bools })
 }
 
-/// An entry of an `if`, put at the end of the list. It gives the number of its test's type.
+/// An arm of an `if`, appended to the list. It gives the number of its test's type.
 #[cycle(statement)]
 fn if_arm(
     view: &CheckTables<'_>,
@@ -48,7 +48,7 @@ fn if_arm(
     Ok(ty)
 }
 
-/// The `if` of its entries, put at the end of the list: E33 unless all their tests are BOOLs.
+/// The `if` with its arms, appended to the list: E33 unless all their tests are BOOLs.
 pub(crate) fn if_stmt(
     entries: Entries,
     rest: Items<TypedStmt>,

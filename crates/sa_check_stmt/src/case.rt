@@ -1,12 +1,13 @@
 //! `case`: the value is evaluated once, into a variable without a name, and compared by `is_eq` in order.
 
 use crate::statement::statements;
-use sa_ast::{CaseArm, Expr, FaultKind, NoMemory, Pos, Rejection, held};
+use crate::{BodyState, with_type};
+use failure::{Failure, Invariant, known};
+use sa_ast::{CaseArm, Expr, FaultKind, Pos, Rejection};
 use sa_check_expr::{
     BodyOutput, Call, CheckContext, CheckTables, CheckedExpr, Expected, Receiver, Synthesised,
     synthesise, synthesise_all, typed_call,
 };
-use sa_check_simple::{BodyState, with_type};
 use sa_instantiate::OB;
 use sa_typed::{TypedBranch, TypedExpr, TypedStmt};
 use sqlite_items::Items;
@@ -50,9 +51,9 @@ pub(crate) fn case_subject(
 }
 
 /// The number of a value's type. A contextual value has none, and is refused later.
-fn value_type(value: &Synthesised) -> Result<u32, NoMemory> {
+fn value_type(value: &Synthesised) -> Result<u32, Failure> {
     match value {
-        Synthesised::Typed(value, _at) => held(value.ty),
+        Synthesised::Typed(value, _at) => known(value.ty, Invariant::CheckedNumber),
         _ => Ok(OB),
     }
 }
@@ -85,7 +86,7 @@ fn case_arm(
     Ok(TypedArm { values, body })
 }
 
-/// The `case` of its parts, put at the end of the list.
+/// The `case` with its parts, appended to the list.
 pub(crate) fn case_stmts(
     context: CheckContext<'_>,
     built: &mut BodyOutput,
@@ -103,7 +104,7 @@ pub(crate) fn case_stmts(
     Ok(())
 }
 
-/// What is done where no value is equal.
+/// The statements that are executed where no value is equal.
 fn otherwise(
     alloc: Global,
     rest: Option<Items<TypedStmt>>,
@@ -171,7 +172,7 @@ fn comparison(
     test.into_bool(pos)
 }
 
-/// The variable, as what a call is made on, before which there are so many sites.
+/// The variable as the receiver of a call, before which there are this many sites.
 fn variable_receiver(variable: CaseVariable, sites: usize) -> Receiver {
     let value = CheckedExpr {
         core: TypedExpr::Var(variable.number),

@@ -1,21 +1,22 @@
 //! Features: a routine or an iter with its body, and a shared with its initialiser.
 
 use crate::statement::statements;
+use crate::{BodyState, FeatureKind, check_assignable};
+use failure::{Invariant, known};
 use sa_ast::{
-    Expr, FaultKind, Feature, FeatureBody, FormalParam, Mode, Pos, Rejection, Rule, Stmt, held,
+    Expr, FaultKind, Feature, FeatureBody, FormalParam, Mode, Pos, Rejection, Rule, Stmt,
 };
 use sa_check_expr::{
     BodyOutput, CheckScope, CheckTables, Expected, position, type_expr, written_type,
 };
-use sa_check_simple::{BodyState, FeatureKind, check_assignable};
 use sa_typed::{TypedExpr, TypedFeature, TypedShared, TypedStmt};
 use sqlite_items::Items;
 use std::mem;
 
-/// How many variables a feature has at most, arguments among them.
+/// The greatest number of variables of a feature, parameters among them.
 const MOST_VARIABLES: usize = 200;
 
-/// How many `out` and `inout` arguments a feature has at most.
+/// The greatest number of `out` and `inout` parameters of a feature.
 const MOST_OUT: usize = 16;
 
 /// A routine or an iter of the class, typed. `built.sites` is empty before and after the call, and the answer has them.
@@ -23,7 +24,7 @@ const MOST_OUT: usize = 16;
 /// # Errors
 ///
 /// The first refusal by the rules of statements and expressions; E43 for equal arguments before those, and E54 and E53 for
-/// too many `out` arguments and too many variables after them; `NoMemory`.
+/// too many `out` arguments and too many variables after them; a `Failure`.
 pub fn body(
     view: &CheckTables<'_>,
     built: &mut BodyOutput,
@@ -46,7 +47,7 @@ pub fn body(
     })
 }
 
-/// The statements of the feature, and behind them a stop where a routine with a result reaches its end.
+/// The statements of the feature; those of a routine with a result are followed by a fault, for an execution that reaches its end.
 fn whole_body(
     view: &CheckTables<'_>,
     draft: &mut BodyState,
@@ -65,13 +66,13 @@ fn whole_body(
 /// # Errors
 ///
 /// The first refusal by the rules of expressions; E33 at the name of the shared unless the initialiser has a subtype of its
-/// type; `NoMemory`.
+/// type; a `Failure`.
 pub fn shared_body(
     view: &CheckTables<'_>,
     built: &mut BodyOutput,
     f: &Feature,
 ) -> Result<TypedShared, Rejection> {
-    let ty = held(result_of(view, f)?)?;
+    let ty = known(result_of(view, f)?, Invariant::CheckedNumber)?;
     let start = start(view, built, ty, f)?;
     let class = view.class;
     Ok(TypedShared { ty, class, start })
@@ -90,7 +91,7 @@ fn start(
     }
 }
 
-/// An initialiser, whose place expects the type of the shared.
+/// An initialiser, whose context expects the type of the shared.
 fn initialiser(
     view: &CheckTables<'_>,
     built: &mut BodyOutput,
@@ -107,7 +108,7 @@ fn initialiser(
 fn result_of(view: &CheckTables<'_>, f: &Feature) -> Result<Option<u32>, Rejection> {
     match &f.result {
         None => Ok(None),
-        Some(ty) => Ok(Some(held(written_type(view, ty))?)),
+        Some(ty) => Ok(Some(known(written_type(view, ty), Invariant::CheckedNumber)?)),
     }
 }
 
@@ -119,7 +120,7 @@ fn body_of(f: &Feature) -> &[Stmt] {
     }
 }
 
-/// Declares the arguments as the first variables, and gives their modes.
+/// Declares the parameters as the first variables, and gives their modes.
 fn formals(
     view: &CheckTables<'_>,
     draft: &mut BodyState,
@@ -127,14 +128,14 @@ fn formals(
 ) -> Result<Items<Mode>, Rejection> {
     let mut modes = Items::new(view.alloc);
     for formal in formals {
-        let ty = held(written_type(view, &formal.ty))?;
+        let ty = known(written_type(view, &formal.ty), Invariant::CheckedNumber)?;
         draft.declare(view.alloc, &formal.local, ty)?;
         modes.push(formal.mode)?;
     }
     Ok(modes)
 }
 
-/// Whether the feature has no more `out` arguments and variables than it may have.
+/// Whether the feature has no more `out` parameters and variables than it may have.
 fn within_limits(draft: &BodyState, modes: &[Mode], name: Pos) -> Result<(), Rejection> {
     if out_arguments(modes) > MOST_OUT {
         return Err(Rule::TooManyOutArguments.at(name).into());
@@ -145,7 +146,7 @@ fn within_limits(draft: &BodyState, modes: &[Mode], name: Pos) -> Result<(), Rej
     Ok(())
 }
 
-/// The number of `out` and `inout` arguments.
+/// The number of `out` and `inout` parameters.
 fn out_arguments(modes: &[Mode]) -> usize {
     let mut count = 0usize;
     for mode in modes {

@@ -1,9 +1,10 @@
 //! `protect`: its statements, and the branches for what they raise.
 
+use crate::BodyState;
 use crate::statement::statements;
-use sa_ast::{Rejection, TypeArm, held};
+use failure::{Invariant, known};
+use sa_ast::{Rejection, TypeArm};
 use sa_check_expr::{BodyOutput, CheckTables, written_type};
-use sa_check_simple::BodyState;
 use sa_typed::TypedArm;
 use sqlite_items::Items;
 
@@ -30,7 +31,7 @@ fn protect_arm(
     built: &mut BodyOutput,
     arm: &TypeArm,
 ) -> Result<TypedArm, Rejection> {
-    let ty = held(written_type(view, &arm.ty))?;
+    let ty = known(written_type(view, &arm.ty), Invariant::CheckedNumber)?;
     draft.place.branch = Some(ty);
     let body = statements(view, draft, built, arm.body.as_slice())?;
     Ok(TypedArm { ty, var: 0, body })

@@ -4,9 +4,9 @@ use crate::block::{if_arms, if_stmt};
 use crate::case::{case_arms, case_stmts, case_subject};
 use crate::protect::protect_arms;
 use crate::typecase::{tested_variable, typecase_arms};
+use crate::{BodyState, simple_statement};
 use sa_ast::{Rejection, Stmt};
 use sa_check_expr::{BodyOutput, CheckTables};
-use sa_check_simple::{BodyState, simple_statement};
 use sa_instantiate::OB;
 use sa_typed::TypedStmt;
 use sqlite_items::Items;
@@ -28,9 +28,8 @@ pub(crate) fn statements(
     Ok(cores)
 }
 
-/// A statement, put at the end of the list: it can be several of the typed tree. All that stands in it is typed before its
-/// own conditions are asked. What stands in a branch of a `protect` counts as in the protect too; `exception` has the type
-/// of the innermost branch, and in `else` the type `$OB`.
+/// A statement, appended to the list: it can become several of the typed AST. Its parts are typed before its own conditions are checked. A
+/// branch of a `protect` counts as inside the protect too; `exception` has the type of the innermost branch, and in `else` the type `$OB`.
 #[cycle(statement)]
 fn statement(
     view: &CheckTables<'_>,
@@ -93,7 +92,7 @@ fn statement(
     }
 }
 
-/// Puts a statement at the end of the list.
+/// Appends a statement to the list.
 fn put(cores: &mut Items<TypedStmt>, core: TypedStmt) -> Result<(), Rejection> {
     cores.push(core)?;
     Ok(())

@@ -1,9 +1,10 @@
 //! `typecase`: in each branch the tested variable is another one, of a narrower type.
 
+use crate::BodyState;
 use crate::statement::statements;
-use sa_ast::{Name, NoMemory, Pos, Rejection, Rule, TypeArm, held};
+use failure::{Failure, Invariant, known};
+use sa_ast::{Name, Pos, Rejection, Rule, TypeArm};
 use sa_check_expr::{BodyOutput, CheckTables, Variable, is_sub, written_type};
-use sa_check_simple::BodyState;
 use sa_typed::TypedArm;
 use sqlite_items::Items;
 
@@ -46,14 +47,14 @@ fn typecase_arm(
     tested: Variable,
     arm: &TypeArm,
 ) -> Result<TypedArm, Rejection> {
-    let ty = held(written_type(view, &arm.ty))?;
+    let ty = known(written_type(view, &arm.ty), Invariant::CheckedNumber)?;
     let var = narrow(view, draft, built, name, tested, ty)?;
     let body = statements(view, draft, built, arm.body.as_slice())?;
     draft.replace(name, tested);
     Ok(TypedArm { ty, var, body })
 }
 
-/// Lets the name stand for a new variable, and gives its number.
+/// Rebinds the name to a new variable, and gives its number.
 fn narrow(
     view: &CheckTables<'_>,
     draft: &mut BodyState,
@@ -61,7 +62,7 @@ fn narrow(
     name: &Name,
     tested: Variable,
     branch: u32,
-) -> Result<u32, NoMemory> {
+) -> Result<u32, Failure> {
     let ty = narrow_type(view, built, tested.ty, branch);
     let number = draft.variable(ty)?;
     let narrowed = Variable {

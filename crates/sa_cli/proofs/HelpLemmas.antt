@@ -1,4 +1,4 @@
--- The first word that asks for something, or behind which words are names.
+-- The first argument that asks for something, or after which all arguments are names.
 use Rattle.std.proofs.Common.{◌≡◌, ◌∙◌, ℕ, ◌||◌, Bool, false, ap, sym, List, map, Option}
 use Rattle.std.specs.Prelude.{find, option_map}
 use Rattle.std.specs.Option.{option_map_or}

@@ -1,4 +1,4 @@
--- The subcommand of a parse, and the line that it gives.
+-- The subcommand of a parse, and the command line that it gives.
 use Rattle.std.proofs.Common.{◌≡◌, ◌≤◌, ◌∙◌, true, refl, sym, arith, List, [], length, Option, None, Some, Result, IfOk, Box, Global}
 use Rattle.std.proofs.lemmas.Bool.Decides.{nat_tests}
 use Rattle.std.specs.Option.{ok_or}
@@ -23,15 +23,15 @@ named_rows m name rows = go (out-ArgMatches m).subcommand
     go None first second = cc
     go (Some b) first second = cc
 
--- the words are taken where they are few and have no fault
+-- the arguments are accepted where there are few enough and `clap` finds no fault in them
 pub taken : (words : List Text) → length words ≤ 65535 → fault_of program words ≡ [] → are_taken words ≡ true
 taken words few free = rw free (grind (arith, nat_tests, few))
 
--- the line of words that are taken, by the subcommand that they name
+-- the command line of accepted arguments, by the subcommand that they name
 pub line_named : (words : List Text) (name : Text) (rows : List Row) → are_taken words ≡ true → subcommand_of program words ≡ Some (name, rows) → plain_line_in words ≡ named_line name rows
 line_named words name rows all found = rw (all, found) refl
 
--- a command that is found gives the line
+-- a command that was found gives the command line
 pub line_found : (found : Option Command) (line named : Option Line) (fault : ArgsError) (r : Result Command ArgsError) → line ≡ named → option_map line_of found ≡ named → r ≡ ok_or found fault → IfOk r (λ command. line ≡ Some (line_of command))
 line_found None line named fault r same is gives = rw gives tt
 line_found (Some command) line named fault r same is gives = rw gives (same ∙ sym is)

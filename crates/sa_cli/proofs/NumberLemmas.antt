@@ -17,7 +17,7 @@ numerals = numerals_by_value _ (record {
   more = search rules;
 })
 
--- digits that are no number of 64 bits are none of a smaller range
+-- digits that aren't a number of 64 bits aren't one of a smaller range
 pub number_none : {E : Type 0} (least most : ℕ) (text : List ℕ) (r : Result ℕ E) → ParsesUnsigned 64 10 text r → is_numeral text ≡ true → result_ok r ≡ None → most < 2 ^ 64 → number_in least most text ≡ None
 number_none least most text (Ok x) parsed digits none small = cc
 number_none least most text (Err e) parsed digits none small =

@@ -1,5 +1,5 @@
--- Which command a line of words is.
-use Rattle.std.specs.Prelude.{◌^◌, ◌-◌, ◌&&◌, ◌||◌, ℕ, Bool, false, List, [], Option, None, Some, codes}
+-- Which command the arguments of a command line are.
+use Rattle.std.specs.Prelude.{◌^◌, ◌-◌, ◌&&◌, ◌||◌, ℕ, Bool, true, false, List, [], Option, None, Some, codes}
 use Rattle.std.specs.Prelude.{length, map, if◌then◌else◌, nat_le, option_map, option_and_then, unwrap_or}
 use Rattle.std.specs.List.{list_any}
 use Rattle.std.specs.Option.{option_map_or}
@@ -15,6 +15,8 @@ use Rattle.sa_cli.specs.declared.command.Contracts.{Contracts}
 use Rattle.sa_cli.specs.declared.command.Contracts.TheVariants.{Dropped, Checked}
 use Rattle.sa_cli.specs.declared.command.Detail.{Detail}
 use Rattle.sa_cli.specs.declared.command.Detail.TheVariants.{Brief, Explained}
+use Rattle.sa_cli.specs.declared.command.DumpForm.{DumpForm}
+use Rattle.sa_cli.specs.declared.command.DumpForm.TheVariants.{Ast, Typed, Cfg, Regions}
 use Rattle.sa_cli.specs.declared.command.Extent.{Extent}
 use Rattle.sa_cli.specs.declared.command.Extent.TheVariants.{Needed, All}
 use Rattle.sa_cli.specs.Help.{asked_topic, asks_help, asks_reason, asks_version, topic_named}
@@ -33,12 +35,13 @@ pub data Line : Type 0 where
   Selftest : (classes : ℕ) → Line
   Listing : (file : Text) → Line
   Assemble : (out : Text) → (file : Text) → Line
+  Dump : (form : DumpForm) → (contracts : Contracts) → (all : Bool) → (detail : Detail) → (files : List Text) → Line
   Help : Topic → Line
   Version : Line
   Explain : (word : Text) → Line
   Library : (name : Option Text) → Line
 
--- what a command says
+-- the content of a command
 abbrev pub line_of : Command → Line
 line_of (command.Run run) = Run run.fuel run.room run.stats run.contracts run.trace run.detail (map (λ file. file.now) run.files.items)
 line_of (command.Build build) =
@@ -50,24 +53,26 @@ line_of (command.Gen classes) = Gen classes
 line_of (command.Selftest classes) = Selftest classes
 line_of (command.Listing listing) = Listing listing.«module».now
 line_of (command.Assemble assemble) = Assemble assemble.out.now assemble.file.now
+line_of (command.Dump dump) = Dump dump.form dump.contracts dump.all dump.detail (map (λ file. file.now) dump.files.items)
 line_of (command.Help topic) = Help topic
 line_of command.Version = Version
 line_of (command.Explain word) = Explain word.now
 line_of (command.Library name) = Library (option_map (λ text. text.now) name)
 
--- how much a command asks to be told of the cause of its end
+-- how much detail a command asks for in the report of why it ended
 abbrev pub detail_of : Line → Detail
 detail_of (Run fuel room stats contracts trace detail files) = detail
 detail_of (Build room contracts detail out sites files) = detail
 detail_of (Check contracts extent detail files) = detail
 detail_of (Exec fuel pages stats detail file) = detail
+detail_of (Dump form contracts all detail files) = detail
 detail_of _ = Brief
 
--- how much words that are no command ask to be told of that
+-- the same of arguments that aren't a command
 abbrev pub detail_without_command : List Text → Detail
 detail_without_command words = if asks_reason words then Explained else Brief
 
--- the fuel, which has no limit but that of its type, and else that limit
+-- the fuel: any number of its type, and by default the greatest one
 abbrev pub fuel_in : List Row → Option ℕ
 fuel_in rows = number_or (2 ^ 64 - 1) 0 (2 ^ 64 - 1) (first_of (codes "fuel") rows)
 
@@ -75,7 +80,7 @@ fuel_in rows = number_or (2 ^ 64 - 1) 0 (2 ^ 64 - 1) (first_of (codes "fuel") ro
 abbrev pub room_in : List Row → Option ℕ
 room_in rows = number_or 65536 64 1048576 (first_of (codes "room") rows)
 
--- whether a flag is given: `clap` gives it the value `true` then
+-- whether a flag is set: `clap` gives it the value `true` then
 abbrev pub is_given : Text → List Row → Bool
 is_given name rows = option_map_or (λ text. bytes_eq text (codes "true")) (first_of name rows) false
 
@@ -101,11 +106,11 @@ files_in rows = unwrap_or (all_of (codes "file") rows) []
 abbrev pub is_among : Text → List Text → Bool
 is_among name names = list_any (bytes_eq name) names
 
--- the name of the input, where it is read as a file
+-- the name of standard input, where it is read as a file
 abbrev pub input : Text
 input = codes "-"
 
--- a run of these files, none of which is the input, since that is the program's
+-- a run of these files, none of which is standard input, since the program reads that
 abbrev pub run_of : List Row → (files : List Text) → Option Line
 run_of rows files =
     if is_among input files then None
@@ -116,15 +121,15 @@ run_of rows files =
 abbrev pub run_in : List Row → Option Line
 run_in rows = run_of rows (files_in rows)
 
--- nothing may be written under this name: it is that of the input, or of a file that is read
+-- this name may not be written: it is that of standard input, or of a file that is read
 abbrev pub is_read_only : Text → (files : List Text) → Bool
 is_read_only name files = bytes_eq name input || is_among name files
 
--- two files that are to be written have one name, or one of them may not be written
+-- two files that are to be written have the same name, or one of them may not be written
 abbrev pub do_clash : (out : Text) → (sites : Option Text) → (files : List Text) → Bool
 do_clash out sites files = is_read_only out files || option_map_or (λ name. bytes_eq name out || is_read_only name files) sites false
 
--- a build of these files into OUT, with their sites in a file of its own, if there is one
+-- a build of these files into OUT, with their sites in a file of its own, if one is named
 abbrev pub build_into : List Row → ℕ → (out : Text) → (sites : Option Text) → (files : List Text) → Option Line
 build_into rows room out sites files =
     if do_clash out sites files then None else Some (Build room (contracts_in rows) (detail_in rows) out sites files)
@@ -144,7 +149,7 @@ check_in rows = Check (contracts_in rows) (extent_in rows) (detail_in rows) (fil
 abbrev pub pages_in : List Row → Option (Option ℕ)
 pages_in rows = option_map_or (λ text. option_map Some (number_in 0 65536 text)) (first_of (codes "pages") rows) (Some None)
 
--- the run of the module in this file, which isn't the input, since that is the module's
+-- the run of the module in this file, which isn't standard input, since the module reads that
 abbrev pub exec_of : List Row → (fuel : ℕ) → (pages : Option ℕ) → (file : Text) → Option Line
 exec_of rows fuel pages file = if bytes_eq file input then None else Some (Exec fuel pages (stats_in rows) (detail_in rows) file)
 
@@ -169,7 +174,24 @@ abbrev pub assemble_in : List Row → Option Line
 assemble_in rows =
     option_and_then (λ out. option_and_then (assemble_into out) (first_of (codes "file") rows)) (first_of (codes "out") rows)
 
--- what help is about: a command, or all of them where none is named
+-- the form that is asked for, where it is one alone
+abbrev pub form_of : (ast typed cfg regions : Bool) → Option DumpForm
+form_of true false false false = Some Ast
+form_of false true false false = Some Typed
+form_of false false true false = Some Cfg
+form_of false false false true = Some Regions
+form_of _ _ _ _ = None
+
+abbrev pub form_in : List Row → Option DumpForm
+form_in rows =
+    form_of (is_given (codes "ast") rows) (is_given (codes "typed") rows) (is_given (codes "cfg") rows) (is_given (codes "regions") rows)
+
+-- a dump of this form of the program in these files, with what no file writes where that is asked for
+abbrev pub dump_in : List Row → Option Line
+dump_in rows =
+    option_map (λ form. Dump form (contracts_in rows) (is_given (codes "all") rows) (detail_in rows) (files_in rows)) (form_in rows)
+
+-- the topic of `help`: a command, or all of them where none is named
 abbrev pub help_in : List Row → Option Line
 help_in rows = option_map_or (λ name. option_map Help (topic_named name)) (first_of (codes "command") rows) (Some (Help topic.All))
 
@@ -179,7 +201,7 @@ explain_in rows = option_map Explain (first_of (codes "word") rows)
 abbrev pub library_in : List Row → Line
 library_in rows = Library (first_of (codes "name") rows)
 
--- the command of this name with these matches, where it is one that prints a text
+-- the command with this name and these matches, if it is one that prints a text
 abbrev pub printing_line : Text → List Row → Option Line
 printing_line name rows =
     if bytes_eq name (codes "help") then help_in rows
@@ -187,7 +209,7 @@ printing_line name rows =
     else (if bytes_eq name (codes "explain") then explain_in rows
     else (if bytes_eq name (codes "lib") then Some (library_in rows) else None)))
 
--- the command of this name with these matches
+-- the command with this name and these matches
 abbrev pub named_line : Text → List Row → Option Line
 named_line name rows =
     if bytes_eq name (codes "run") then run_in rows
@@ -197,23 +219,24 @@ named_line name rows =
     else (if bytes_eq name (codes "gen") then option_map Gen (classes_in rows)
     else (if bytes_eq name (codes "selftest") then option_map Selftest (classes_in rows)
     else (if bytes_eq name (codes "listing") then listing_in rows
-    else (if bytes_eq name (codes "assemble") then assemble_in rows else printing_line name rows)))))))
+    else (if bytes_eq name (codes "assemble") then assemble_in rows
+    else (if bytes_eq name (codes "dump") then dump_in rows else printing_line name rows))))))))
 
--- there are at most 65,535 words, and `clap` finds no fault in them
+-- there are at most 65,535 arguments, and `clap` finds no fault in them
 abbrev pub are_taken : List Text → Bool
 are_taken words = nat_le (length words) 65535 && is_empty (fault_of program words)
 
--- the command that `clap` reads the words as
+-- the command that `clap` parses the arguments into
 abbrev pub plain_line_in : List Text → Option Line
 plain_line_in words =
     if are_taken words then option_and_then (λ found. named_line found.0 found.1) (subcommand_of program words) else None
 
--- the command that the words are: words that ask for help or for the version by an option, and else a command by `clap`
+-- the command that the arguments are: help or the version where an option asks for it, and otherwise a command by `clap`
 abbrev pub line_in : List Text → Option Line
 line_in words =
     if asks_help words then option_map Help (asked_topic words)
     else (if asks_version words then Some Version else plain_line_in words)
 
--- how much words ask to be told of the cause of their end: as much as the command that they are does, if they are one
+-- how much detail arguments ask for in the report of why they ended: as much as their command does, if they are one
 abbrev pub asked_detail : List Text → Detail
 asked_detail words = option_map_or detail_of (line_in words) (detail_without_command words)

@@ -1,4 +1,4 @@
--- The program's command line, as `clap` reads it.
+-- The program's command line, as `clap` parses it.
 use Rattle.std.specs.Prelude.{true, codes, Some}
 use Rattle.clap.specs.Words.{App, Rule, Text, new_app, new_rule, with_rule, with_subcommand}
 use Rattle.clap.specs.declared.builder.action.ArgAction.TheVariants.{Append, SetTrue}
@@ -7,7 +7,7 @@ use Rattle.clap.specs.declared.builder.action.ArgAction.TheVariants.{Append, Set
 abbrev pub option : Text → Rule
 option name = record (new_rule name) { long = Some name }
 
--- an option without a value: `--stats`, `--contracts`, `--trace`, `--all`, `--explain`
+-- an option without a value: `--stats`, `--contracts`, `--trace`, `--all`, `--explain`, `--ast`, `--typed`, `--cfg`, `--regions`
 abbrev pub flag : Text → Rule
 flag name = record (new_rule name) { long = Some name; action = Some SetTrue }
 
@@ -79,6 +79,15 @@ listing = with_rule (new_app (codes "listing")) module_file
 abbrev pub assemble : App
 assemble = with_rule (with_rule (new_app (codes "assemble")) out) listing_file
 
+-- the options of which `dump` takes one
+abbrev pub forms : App → App
+forms app =
+    let trees = with_rule (with_rule app (flag (codes "ast"))) (flag (codes "typed")) in
+    with_rule (with_rule trees (flag (codes "cfg"))) (flag (codes "regions"))
+
+abbrev pub dump : App
+dump = with_rule (with_rule (with_rule (explaining (forms (new_app (codes "dump")))) (flag (codes "contracts"))) (flag (codes "all"))) files
+
 abbrev pub help : App
 help = with_rule (new_app (codes "help")) topic
 
@@ -108,7 +117,7 @@ abbrev pub working : App
 working =
     let compiling = with_subcommand (with_subcommand (with_subcommand sather run.top) build.top) check.top in
     let running = with_subcommand (with_subcommand (with_subcommand compiling exec.top) gen.top) selftest.top in
-    with_subcommand (with_subcommand running listing.top) assemble.top
+    with_subcommand (with_subcommand (with_subcommand running listing.top) assemble.top) dump.top
 
 -- these commands, and those that print a text
 abbrev pub program : App

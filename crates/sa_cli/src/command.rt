@@ -7,23 +7,25 @@ pub enum Command<'a> {
     Build(Build<'a>),
     Check(Check<'a>),
     Exec(Exec<'a>),
-    /// The text of the generated program of so many classes, from 1 to 500, is asked for.
+    /// Prints the text of the generated program with so many classes, from 1 to 500.
     Gen(u32),
-    /// The generated program of so many classes, from 1 to 500, is to be compiled and run.
+    /// Compiles and runs the generated program with so many classes, from 1 to 500.
     Selftest(u32),
     Listing(Listing<'a>),
     Assemble(Assemble<'a>),
-    /// The help on this topic is asked for.
+    /// A form of the program in the files is to be printed.
+    Dump(Dump<'a>),
+    /// Prints the help on this topic.
     Help(Topic),
-    /// The version is asked for.
+    /// Prints the version.
     Version,
-    /// The page that explains this word is asked for.
+    /// Prints the page that explains this word.
     Explain(&'a str),
-    /// The file of the library with this name is asked for, or without a name the list of its files.
+    /// Prints the file of the library with this name, or without a name the list of its files.
     Library(Option<&'a str>),
 }
 
-/// What help is about: all commands, or the one of this name.
+/// The topic of help: all commands, or the one with this name.
 #[derive(Clone, Copy, Debug, PartialEq, Eq, Hash)]
 pub enum Topic {
     All,
@@ -35,36 +37,37 @@ pub enum Topic {
     Selftest,
     Listing,
     Assemble,
+    Dump,
     Help,
     Version,
     Explain,
     Library,
 }
 
-/// What is done with the contracts of a program.
+/// Whether the contracts of a program are checked.
 #[derive(Clone, Copy, Debug, PartialEq, Eq, Hash)]
 pub enum Contracts {
-    /// They are read, and say nothing.
+    /// They are parsed, and have no effect.
     Dropped,
-    /// What they say is checked when the program runs.
+    /// They are checked when the program runs.
     Checked,
 }
 
-/// What is told of the iters of a program that runs.
+/// What is reported about the iters of a program that runs.
 #[derive(Clone, Copy, Debug, PartialEq, Eq, Hash)]
 pub enum Trace {
     /// Nothing.
     Silent,
-    /// What becomes of each of their instances.
+    /// The events of each of their instances.
     Reported,
 }
 
-/// How much is told of the cause of an end.
+/// How much is reported about the cause of an end.
 #[derive(Clone, Copy, Debug, PartialEq, Eq, Hash)]
 pub enum Detail {
-    /// Its line.
+    /// One line.
     Brief,
-    /// What it means in words of the source, too.
+    /// What it means in terms of the source, too.
     Explained,
 }
 
@@ -77,23 +80,23 @@ pub enum Extent {
     All,
 }
 
-/// The program in the files is to be compiled and run.
+/// Compiles and runs the program in the files.
 #[derive(Debug, Drop)]
 pub struct Run<'a> {
     /// The greatest number of steps.
     pub fuel: u64,
     /// The bytes that the program may charge, in KiB.
     pub room: u32,
-    /// Whether the steps and the module's length are told at the end.
+    /// Whether the steps and the module's length are reported at the end.
     pub stats: bool,
     pub contracts: Contracts,
     pub trace: Trace,
     pub detail: Detail,
-    /// The files' names: one or more.
+    /// The names of the files: one or more.
     pub files: Vec<&'a str>,
 }
 
-/// The program in the files is to be compiled, and its module written. The files that are written are others than those that are read.
+/// Compiles the program in the files and writes its module. No file that is written is one of those that are read.
 #[derive(Debug, Drop)]
 pub struct Build<'a> {
     /// The bytes that the program may charge, in KiB.
@@ -102,48 +105,73 @@ pub struct Build<'a> {
     pub detail: Detail,
     /// The name of the module's file.
     pub out: &'a str,
-    /// The name of the file of the positions of faults, if they are to be written too.
+    /// The name of the file for the positions of faults, if they are to be written too.
     pub sites: Option<&'a str>,
-    /// The files' names: one or more.
+    /// The names of the files: one or more.
     pub files: Vec<&'a str>,
 }
 
-/// It is to be told whether the program in the files is accepted.
+/// Reports whether the program in the files is accepted.
 #[derive(Debug, Drop)]
 pub struct Check<'a> {
     pub contracts: Contracts,
     pub extent: Extent,
     pub detail: Detail,
-    /// The files' names: one or more.
+    /// The names of the files: one or more.
     pub files: Vec<&'a str>,
 }
 
-/// The module in the file is to be run.
+/// Runs the module in the file.
 #[derive(Clone, Copy, Debug)]
 pub struct Exec<'a> {
     /// The greatest number of steps.
     pub fuel: u64,
-    /// How many pages of 65,536 bytes its memory has at most, from 0 to 65,536, if this is bounded.
+    /// How many pages of 65,536 bytes its memory has at most, from 0 to 65,536, if there is a bound.
     pub pages: Option<u32>,
-    /// Whether the steps and the module's length are told at the end.
+    /// Whether the steps and the module's length are reported at the end.
     pub stats: bool,
     pub detail: Detail,
     /// The name of the module's file.
     pub module: &'a str,
 }
 
-/// The listing of the module in the file is asked for.
+/// Prints the listing of the module in the file.
 #[derive(Clone, Copy, Debug)]
 pub struct Listing<'a> {
     /// The name of the module's file.
     pub module: &'a str,
 }
 
-/// The module of the listing in the file is to be written.
+/// Writes the module of the listing in the file.
 #[derive(Clone, Copy, Debug)]
 pub struct Assemble<'a> {
     /// The name of the module's file.
     pub out: &'a str,
     /// The name of the listing's file.
     pub file: &'a str,
+}
+
+/// A form that a program has on its way through the compiler.
+#[derive(Clone, Copy, Debug, PartialEq, Eq, Hash)]
+pub enum DumpForm {
+    /// The AST of its source.
+    Ast,
+    /// The typed AST.
+    Typed,
+    /// The control-flow graphs of its bodies.
+    Cfg,
+    /// The structured regions of its bodies.
+    Regions,
+}
+
+/// A form of the program in the files is to be printed.
+#[derive(Debug, Drop)]
+pub struct Dump<'a> {
+    pub form: DumpForm,
+    pub contracts: Contracts,
+    /// Whether what no file of the program writes is printed too: the prelude, and what the compiler adds.
+    pub all: bool,
+    pub detail: Detail,
+    /// The files' names: one or more.
+    pub files: Vec<&'a str>,
 }

@@ -1,4 +1,4 @@
-//! Why words give no command.
+//! Why arguments give no command.
 
 ghost use Rattle.sa_cli.specs.declared.fault.ArgsError.TheVariants.{NoMemory};
 ghost use Rattle.std.specs.Prelude.{◌≡◌};
@@ -6,10 +6,10 @@ ghost use Rattle.std.specs.Prelude.{◌≡◌};
 use std::alloc::{AllocError, AllocFailed};
 use thiserror::Error;
 
-/// Why words give no command.
+/// Why arguments give no command.
 #[derive(Clone, Copy, Debug, PartialEq, Eq, Hash, Error)]
 pub enum ArgsError {
-    /// The words are no command, or a number is out of its range.
+    /// The arguments aren't a command, or a number is out of its range.
     #[error("the words are no command")]
     Usage,
     #[error("out of memory")]

@@ -1,4 +1,4 @@
-//! Words that ask for help, for the version, or for the reason why they are no command.
+//! Arguments that ask for help, for the version, or for the reason why they aren't a command.
 
 ghost use Rattle.std.specs.Prelude.{◌≡◌, map, string_bytes};
 ghost use Rattle.sa_cli.specs.Help.{asked_topic, asks_explanation, asks_help, asks_reason, asks_version, begins_with_command};
@@ -16,21 +16,21 @@ pub(crate) fn asks_help(words: &[String]) -> bool
     }
 }
 
-/// Whether a word asks for help, wherever it stands.
+/// Whether an argument asks for help, in any position.
 fn is_help(word: &str) -> bool
     ensures { result ≡ is_help word.now }
 {
     word == "--help" || word == "-h"
 }
 
-/// Whether behind this word all words are names.
+/// Whether all arguments after this one are names.
 fn ends_options(word: &str) -> bool
     ensures { result ≡ ends_options word.now }
 {
     word == "--"
 }
 
-/// What help is about that is asked for by an option: the command that the words begin with, if it is one, or all of them.
+/// The topic of help that an option asks for: the command that the arguments begin with, if it is one, or all commands.
 pub(crate) fn asked_topic(words: &[String]) -> Option<Topic>
     ensures { result ≡ asked_topic (map string_bytes words.now) }
 {
@@ -41,7 +41,7 @@ pub(crate) fn asked_topic(words: &[String]) -> Option<Topic>
     topic_named(first.as_str())
 }
 
-/// The command of this name.
+/// The command with this name, or none.
 pub fn topic_named(name: &str) -> Option<Topic>
     ensures { result ≡ topic_named name.now }
 {
@@ -54,11 +54,12 @@ pub fn topic_named(name: &str) -> Option<Topic>
         "selftest" => Some(Topic::Selftest),
         "listing" => Some(Topic::Listing),
         "assemble" => Some(Topic::Assemble),
+        "dump" => Some(Topic::Dump),
         _ => telling_topic(name),
     }
 }
 
-/// The command of this name, where it is one that prints a text.
+/// The command with this name, if it is one that prints a text.
 fn telling_topic(name: &str) -> Option<Topic>
     ensures { result ≡ printing_topic name.now }
 {
@@ -71,7 +72,7 @@ fn telling_topic(name: &str) -> Option<Topic>
     }
 }
 
-/// Whether the version is asked for by an option, which stands alone.
+/// Whether the version is asked for by an option, which must be the only argument.
 pub(crate) fn asks_version(words: &[String]) -> bool
     ensures { result ≡ asks_version (map string_bytes words.now) }
 {
@@ -81,14 +82,14 @@ pub(crate) fn asks_version(words: &[String]) -> bool
     }
 }
 
-/// Whether words that are no command ask for the reason: they begin with the name of one, and ask for an explanation.
+/// Whether arguments that aren't a command ask for the reason: they begin with the name of one, and ask for an explanation.
 pub(crate) fn asks_reason(words: &[String]) -> bool
     ensures { result ≡ asks_reason (map string_bytes words.now) }
 {
     begins_with_command(words) && asks_explanation(words)
 }
 
-/// Whether words begin with the name of a command.
+/// Whether the arguments begin with the name of a command.
 fn begins_with_command(words: &[String]) -> bool
     ensures { result ≡ begins_with_command (map string_bytes words.now) }
 {
@@ -108,7 +109,7 @@ fn asks_explanation(words: &[String]) -> bool
     }
 }
 
-/// Whether a word asks for an explanation, wherever it stands.
+/// Whether an argument asks for an explanation, in any position.
 fn is_explain(word: &str) -> bool
     ensures { result ≡ is_explain word.now }
 {

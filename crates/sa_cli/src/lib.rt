@@ -1,7 +1,7 @@
-//! The words of a command line: which command they are, with its numbers and names.
+//! The command line: which command its arguments are, with its numbers and names, and the texts of `help` and `version`.
 //!
-//! `clap` reads the words, by the description in `program.rt`, unless they ask for help or for the version by an option. The numbers
-//! are read here, since they are decimal digits alone and have limits of their own.
+//! `clap` parses the arguments, by the description in `program.rt`, unless an option asks for help or for the version. The numbers are
+//! parsed here, since they are decimal digits alone and have limits of their own.
 #![tactic(auto)]
 
 mod command;
@@ -14,9 +14,12 @@ mod printing;
 mod program;
 mod read;
 mod subcommand;
+mod texts;
+mod topic;
 
 pub use command::{
-    Assemble, Build, Check, Command, Contracts, Detail, Exec, Extent, Listing, Run, Topic, Trace,
+    Assemble, Build, Check, Command, Contracts, Detail, Dump, DumpForm, Exec, Extent, Listing, Run,
+    Topic, Trace,
 };
 pub use detail::{detail_of, detail_without_command};
 pub use fault::ArgsError;
@@ -24,3 +27,4 @@ pub use help::topic_named;
 pub use mistake::{Mistake, Needs, mistake_in};
 pub use read::command_of;
 pub use subcommand::ROOM;
+pub use topic::{help_text, version_text};

@@ -1,7 +1,7 @@
-//! What is wrong with words that begin with the name of a command and are none.
+//! What is wrong with arguments that begin with the name of a command and aren't one.
 //!
-//! In what `clap` refuses, the word that it names is taken from the text of its error. What it lets pass is asked of the rules by which
-//! a command is read from its matches.
+//! Where `clap` refuses them, the argument at fault is taken from the text of its error. Where it accepts them, the rules by which a
+//! command is made from its matches say what is wrong.
 
 use crate::program::program;
 use crate::read::MOST_WORDS;
@@ -13,18 +13,18 @@ use clap::error::ErrorKind;
 use clap::{Arg, ArgMatches, Command, Error};
 use std::alloc::{AllocError, Global};
 
-/// What is wrong with words that begin with the name of a command and are none.
+/// What is wrong with arguments that begin with the name of a command and aren't one.
 #[derive(Debug, Drop)]
 pub enum Mistake<'a> {
-    /// There are more words than are taken, which is this number.
+    /// There are more arguments than this number, which is the greatest that is accepted.
     TooMany(usize),
-    /// An option that the command hasn't got, one of its own that is spelled nearly so, and the commands that have it.
+    /// An option that the command hasn't got: with one of its own that is spelled nearly so, and the commands that have it.
     UnknownOption {
         option: String,
         near: Option<String>,
         owners: Vec<&'static str>,
     },
-    /// A word behind all that the command takes.
+    /// An argument after all that the command takes.
     ExtraArgument(String),
     /// An option without a value that was given one.
     Valued(String),
@@ -32,37 +32,39 @@ pub enum Mistake<'a> {
     Unvalued(String),
     /// An option that was given twice.
     Repeated(String),
-    /// What a command needs isn't there.
+    /// The command lacks something that it needs.
     Missing(Needs),
-    /// The value of an option that is no number of its range.
+    /// The value of an option isn't a number of its range.
     OutOfRange {
         option: &'static str,
         text: &'a str,
         least: u64,
         most: u64,
     },
-    /// The input is named as the file that is run.
+    /// Standard input is named as the file that is run.
     InputIsRun,
-    /// The input is named as a file that is written.
+    /// Standard input is named as a file that is written.
     InputIsWritten,
     /// This file would be read and written.
     ReadAndWritten(&'a str),
     /// This file would be written twice.
     WrittenTwice(&'a str),
+    /// Of the forms of a program none is asked for, or more than one.
+    NotOneForm,
     /// Something else.
     Other,
 }
 
-/// What a command needs that isn't there.
+/// What a command needs and lacks.
 #[derive(Clone, Copy, Debug, PartialEq, Eq)]
 pub struct Needs {
-    /// The file that is written.
+    /// The name of the file that is written.
     pub out: bool,
-    /// Its other word.
+    /// Its other argument.
     pub word: bool,
 }
 
-/// What is wrong with words that are no command.
+/// What is wrong with arguments that aren't a command.
 ///
 /// # Errors
 ///
@@ -77,7 +79,7 @@ pub fn mistake_in<'a>(alloc: Global, words: &'a [String]) -> Result<Mistake<'a>,
     }
 }
 
-/// What is wrong with words that `clap` takes.
+/// What is wrong with arguments that `clap` accepts.
 fn in_matches<'a>(matches: &ArgMatches<'a>) -> Mistake<'a> {
     let Some((name, matches)) = matches.subcommand() else {
         return Mistake::Other;
@@ -89,12 +91,13 @@ fn in_matches<'a>(matches: &ArgMatches<'a>) -> Mistake<'a> {
     match name {
         "run" if is_among(INPUT, files) => Mistake::InputIsRun,
         "exec" if value(matches, "module") == Some(INPUT) => Mistake::InputIsRun,
+        "dump" => Mistake::NotOneForm,
         "build" => in_names(value(matches, "out"), value(matches, "sites"), files),
         _ => Mistake::Other,
     }
 }
 
-/// The first number that is none of its range.
+/// The first number that is out of its range.
 fn in_numbers<'a>(matches: &ArgMatches<'a>) -> Option<Mistake<'a>> {
     if fuel(matches).is_none() {
         return out_of_range(matches, "fuel", 0, MOST_FUEL);
@@ -122,7 +125,7 @@ fn out_of_range<'a>(
     })
 }
 
-/// What is wrong with the names of files that are written, beside those that are read.
+/// What is wrong with the names of files that are written, given those that are read.
 fn in_names<'a>(out: Option<&'a str>, sites: Option<&'a str>, files: &[&'a str]) -> Mistake<'a> {
     for name in [out, sites] {
         if let Some(name) = name
@@ -141,7 +144,7 @@ fn in_names<'a>(out: Option<&'a str>, sites: Option<&'a str>, files: &[&'a str])
     }
 }
 
-/// What is wrong with words that `clap` refuses.
+/// What is wrong with arguments that `clap` refuses.
 fn in_words<'a>(alloc: Global, error: &Error) -> Result<Mistake<'a>, AllocError> {
     let text = format!(in alloc; "{error}")?;
     let text = text.as_str();
@@ -186,7 +189,7 @@ fn between<'t>(text: &'t str, front: &str, back: &str) -> Option<&'t str> {
     Some(part)
 }
 
-/// A word that a command doesn't take.
+/// An argument that the command doesn't take.
 fn unknown<'a>(alloc: Global, text: &str) -> Result<Mistake<'a>, AllocError> {
     let Some(word) = between(text, "unexpected argument '", "' found") else {
         return Ok(Mistake::Other);
@@ -225,7 +228,7 @@ fn has_option(command: &Command<'_>, option: &str) -> bool {
         .any(|arg| is_option(arg, option))
 }
 
-/// Whether an option is spelled so. One letter is short for `-o` alone.
+/// Whether an option has this spelling. Only `-o` has a short form of one letter.
 fn is_option(arg: &Arg<'_>, option: &str) -> bool {
     match arg.get_long() {
         Some(long) => option.strip_prefix("--") == Some(long),
@@ -233,7 +236,7 @@ fn is_option(arg: &Arg<'_>, option: &str) -> bool {
     }
 }
 
-/// What isn't there, by the list in front of the first empty line.
+/// What is lacking, by the list before the first empty line.
 fn missing<'a>(text: &str) -> Mistake<'a> {
     let list = match text.split_once("\n\n") {
         Some((list, _)) => list,

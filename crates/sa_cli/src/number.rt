@@ -1,4 +1,4 @@
-//! Numbers of a command line: decimal digits alone, in a range.
+//! Numbers in a command line: decimal digits alone, in a range.
 
 ghost use Rattle.std.specs.Prelude.{◌≡◌, option_map};
 ghost use Rattle.sa_cli.specs.Numbers.{is_numeral, number_in, number_or};

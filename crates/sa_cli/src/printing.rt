@@ -1,4 +1,4 @@
-//! A subcommand that prints a text, with its matches, as a command.
+//! From a subcommand that prints a text, with its matches, to a command.
 
 ghost use Rattle.std.specs.Prelude.{◌≡◌, option_map};
 ghost use Rattle.clap.specs.Words.{found_of, rows_of};
@@ -24,7 +24,7 @@ fn explain<'a>(matches: &ArgMatches<'a>) -> Option<Command<'a>>
     Some(Command::Explain(value(matches, "word")?))
 }
 
-/// The command of this name with these matches, where it is one that prints a text.
+/// The command with this name and these matches, if it is one that prints a text.
 pub(crate) fn printing_command<'a>(name: &str, matches: &ArgMatches<'a>) -> Option<Command<'a>>
     ensures { option_map line_of result ≡ printing_line name.now (rows_of (found_of matches.now)) }
 {

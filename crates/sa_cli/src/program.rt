@@ -189,6 +189,28 @@ fn assemble<'a>(alloc: Global) -> Result<Command<'a>, AllocError>
         .arg(listing_file(alloc))
 }
 
+/// The options of which `dump` takes one: `--ast|--typed|--cfg|--regions`
+fn forms<'a>(alloc: Global, command: Command<'a>) -> Result<Command<'a>, AllocError>
+    requires own { (out-Command command).has_globals ≡ false }
+    ensures { IfOk result (λ c. (app_of c ≡ line.forms (app_of command.entry)) × ((out-Command c).has_globals ≡ false)) }
+{
+    command
+        .arg(flag(alloc, "ast"))?
+        .arg(flag(alloc, "typed"))?
+        .arg(flag(alloc, "cfg"))?
+        .arg(flag(alloc, "regions"))
+}
+
+/// `dump --ast|--typed|--cfg|--regions [--contracts] [--all] [--explain] FILE..`
+fn dump<'a>(alloc: Global) -> Result<Command<'a>, AllocError>
+    ensures { IfOk result (λ c. (app_of c ≡ line.dump) × ((out-Command c).has_globals ≡ false)) }
+{
+    explaining(alloc, forms(alloc, Command::new(alloc, "dump"))?)?
+        .arg(flag(alloc, "contracts"))?
+        .arg(flag(alloc, "all"))?
+        .arg(files(alloc))
+}
+
 /// `help [COMMAND]`
 fn help<'a>(alloc: Global) -> Result<Command<'a>, AllocError>
     ensures { IfOk result (λ c. (app_of c ≡ line.help) × ((out-Command c).has_globals ≡ false)) }
@@ -218,7 +240,7 @@ fn library<'a>(alloc: Global) -> Result<Command<'a>, AllocError>
     Command::new(alloc, "lib").arg(library_name(alloc))
 }
 
-/// A command of the program's name without arguments of its own, of which a subcommand is needed.
+/// A command with the program's name and no arguments of its own, which needs a subcommand.
 fn sather<'a>(alloc: Global) -> Command<'a>
     ensures app { app_of result ≡ line.sather }
     ensures own { (out-Command result).has_globals ≡ false }
@@ -241,7 +263,8 @@ fn working<'a>(alloc: Global) -> Result<Command<'a>, AllocError>
         .subcommand(generate(alloc)?)?
         .subcommand(selftest(alloc)?)?
         .subcommand(listing(alloc)?)?
-        .subcommand(assemble(alloc)?)
+        .subcommand(assemble(alloc)?)?
+        .subcommand(dump(alloc)?)
 }
 
 /// The program's command line: these commands, and those that print a text.

@@ -1,4 +1,4 @@
-//! Words that are read as a command.
+//! From arguments to a command.
 
 ghost use Rattle.std.specs.Prelude.{◌≡◌, ◌≢◌, [], None, Some, IfOk, IsErrOf, map, string_bytes};
 ghost use Rattle.clap.specs.Words.{subcommand_of, subcommand_rows_of};
@@ -15,14 +15,14 @@ use clap::ArgMatches;
 use clap::error::ErrorKind;
 use std::alloc::Global;
 
-/// How many words are taken at most.
+/// The greatest number of arguments that are accepted.
 pub(crate) const MOST_WORDS: usize = 65_535;
 
-/// What the words of a command line, without the program's name, ask for.
+/// Parses the arguments of a command line, without the program's name, into the command that they ask for.
 ///
 /// # Errors
 ///
-/// `Usage` where they are no command: help is asked for of none, or there are more than 65,535 words, or words that `clap` finds a
+/// `Usage` where they aren't a command: help is asked for no command, or there are more than 65,535 arguments, or ones that `clap` finds a
 /// fault in, or a number is out of its range, or the file that is written is one that is read; and `NoMemory`.
 pub fn command_of<'a>(alloc: Global, words: &'a [String]) -> Result<Command<'a>, ArgsError>
     ensures taken { IfOk result (λ command. line_in (map string_bytes words.now) ≡ Some (line_of command)) }
@@ -38,7 +38,7 @@ pub fn command_of<'a>(alloc: Global, words: &'a [String]) -> Result<Command<'a>,
     plain_command_of(alloc, words)
 }
 
-/// What the words ask for, as `clap` reads them.
+/// The command that `clap` parses the arguments into.
 fn plain_command_of<'a>(alloc: Global, words: &'a [String]) -> Result<Command<'a>, ArgsError>
     ensures taken { IfOk result (λ command. plain_line_in (map string_bytes words.now) ≡ Some (line_of command)) }
     ensures usage { IsErrOf result ArgsError.Usage → plain_line_in (map string_bytes words.now) ≡ None }
@@ -53,7 +53,7 @@ fn plain_command_of<'a>(alloc: Global, words: &'a [String]) -> Result<Command<'a
     named(alloc, name, matches)?.ok_or(ArgsError::Usage)
 }
 
-/// What `clap` matches the words with.
+/// The matches that `clap` parses the arguments into.
 fn matches<'a>(alloc: Global, words: &'a [String]) -> Result<ArgMatches<'a>, ArgsError>
     ensures free { IfOk result (λ m. fault_of line.program (map string_bytes words.now) ≡ []) }
     ensures subcommand { IfOk result (λ m. subcommand_rows_of m ≡ subcommand_of line.program (map string_bytes words.now)) }
@@ -65,7 +65,7 @@ fn matches<'a>(alloc: Global, words: &'a [String]) -> Result<ArgMatches<'a>, Arg
     }
 }
 
-/// The fault that an error of `clap` stands for. What it takes for a request of help, as `-hx`, is the usage too.
+/// The fault for a kind of error of `clap`. What `clap` takes for a request of help, such as `-hx`, is a usage error too.
 fn fault(kind: ErrorKind) -> ArgsError
     ensures { result ≡ ArgsError.Usage → kind ≢ ErrorKind.OutOfMemory }
 {

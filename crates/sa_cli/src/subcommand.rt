@@ -1,13 +1,14 @@
-//! A subcommand with its matches, as a command.
+//! From a subcommand with its matches to a command.
 
 ghost use Rattle.std.specs.Prelude.{◌≡◌, IfOk, Some, map, option_map};
 ghost use Rattle.clap.specs.Words.{all_of, first_of, found_of, rows_of};
-ghost use Rattle.sa_cli.specs.Line.{assemble_in, build_in, check_in, classes_in, contracts_in, detail_in, do_clash, exec_in, extent_in};
-ghost use Rattle.sa_cli.specs.Line.{files_in, fuel_in, is_among, is_given, is_read_only, line_of, listing_in, named_line, pages_in, room_in};
+ghost use Rattle.sa_cli.specs.Line.{assemble_in, build_in, check_in, classes_in, contracts_in, detail_in, do_clash, dump_in, exec_in, extent_in};
+ghost use Rattle.sa_cli.specs.Line.{files_in, form_in, fuel_in, is_among, is_given, is_read_only, line_of, listing_in, named_line, pages_in, room_in};
 ghost use Rattle.sa_cli.specs.Line.{run_in, stats_in, trace_in, Gen, Selftest};
 
 use crate::command::{
-    Assemble, Build, Check, Command, Contracts, Detail, Exec, Extent, Listing, Run, Trace,
+    Assemble, Build, Check, Command, Contracts, Detail, Dump, DumpForm, Exec, Extent, Listing, Run,
+    Trace,
 };
 use crate::number::{number_in, number_or};
 use crate::printing::printing_command;
@@ -24,13 +25,13 @@ pub(crate) const LEAST_ROOM: u64 = 64;
 
 pub(crate) const MOST_ROOM: u64 = 1_048_576;
 
-/// How many pages a memory has at most.
+/// The greatest number of pages of a memory.
 pub(crate) const MOST_PAGES: u64 = 65_536;
 
-/// How many classes a generated program has at most.
+/// The greatest number of classes of a generated program.
 const MOST_CLASSES: u64 = 500;
 
-/// The name of the input, where it is read as a file.
+/// The name of standard input, where it is read as a file.
 pub(crate) const INPUT: &str = "-";
 
 /// The value of the argument with this name, or its first one.
@@ -47,14 +48,14 @@ pub(crate) fn values<'m, 'a>(matches: &'m ArgMatches<'a>, name: &str) -> Option<
     matches.get_strs(name)
 }
 
-/// The fuel in steps, if it is in its range.
+/// The fuel in steps, or none where it is out of its range.
 pub(crate) fn fuel(matches: &ArgMatches<'_>) -> Option<u64>
     ensures { result ≡ fuel_in (rows_of (found_of matches.now)) }
 {
     number_or(MOST_FUEL, value(matches, "fuel"), 0, MOST_FUEL)
 }
 
-/// The room in KiB, if it is in its range.
+/// The room in KiB, or none where it is out of its range.
 pub(crate) fn room(matches: &ArgMatches<'_>) -> Option<u32>
     ensures { result ≡ room_in (rows_of (found_of matches.now)) }
 {
@@ -67,7 +68,7 @@ pub(crate) fn room(matches: &ArgMatches<'_>) -> Option<u32>
     Some(room as u32)
 }
 
-/// The bound of the memory in pages, if there is one. None where it isn't in its range.
+/// The bound of the memory in pages, if there is one. None where it is out of its range.
 pub(crate) fn pages(matches: &ArgMatches<'_>) -> Option<Option<u32>>
     ensures { result ≡ pages_in (rows_of (found_of matches.now)) }
 {
@@ -80,7 +81,7 @@ pub(crate) fn pages(matches: &ArgMatches<'_>) -> Option<Option<u32>>
     }
 }
 
-/// Whether the flag of this name is given. `clap` gives it the value `true` then.
+/// Whether the flag with this name is set. `clap` gives it the value `true` then.
 fn is_given(matches: &ArgMatches<'_>, name: &str) -> bool
     ensures { result ≡ is_given name.now (rows_of (found_of matches.now)) }
 {
@@ -94,7 +95,7 @@ fn stats(matches: &ArgMatches<'_>) -> bool
     is_given(matches, "stats")
 }
 
-/// What is done with contracts.
+/// Whether contracts are checked.
 fn contracts(matches: &ArgMatches<'_>) -> Contracts
     ensures { result ≡ contracts_in (rows_of (found_of matches.now)) }
 {
@@ -105,7 +106,7 @@ fn contracts(matches: &ArgMatches<'_>) -> Contracts
     }
 }
 
-/// What is told of iters.
+/// What is reported about iters.
 fn trace(matches: &ArgMatches<'_>) -> Trace
     ensures { result ≡ trace_in (rows_of (found_of matches.now)) }
 {
@@ -116,7 +117,7 @@ fn trace(matches: &ArgMatches<'_>) -> Trace
     }
 }
 
-/// How much is told of the cause of the end.
+/// How much is reported about the cause of the end.
 fn detail(matches: &ArgMatches<'_>) -> Detail
     ensures { result ≡ detail_in (rows_of (found_of matches.now)) }
 {
@@ -159,7 +160,7 @@ fn run<'a>(alloc: Global, matches: &ArgMatches<'a>) -> Result<Option<Command<'a>
     ensures { IfOk result (λ command. option_map line_of command ≡ run_in (rows_of (found_of matches.now))) }
 {
     let files = files(alloc, matches)?;
-    // The input is the program's.
+    // The program itself reads standard input.
     if is_among(INPUT, files.as_slice()) {
         return Ok(None);
     }
@@ -177,14 +178,14 @@ fn run<'a>(alloc: Global, matches: &ArgMatches<'a>) -> Result<Option<Command<'a>
     })))
 }
 
-/// Whether nothing may be written under this name: it is that of the input, or of a file that is read.
+/// Whether this name may not be written: it is that of standard input, or of a file that is read.
 pub(crate) fn is_read_only(name: &str, files: &[&str]) -> bool
     ensures { result ≡ is_read_only name.now (map (λ file. file.now) files.now) }
 {
     name == INPUT || is_among(name, files)
 }
 
-/// Whether two files that are to be written have one name, or one of them may not be written.
+/// Whether two files that are to be written have the same name, or one of them may not be written.
 fn do_clash(out: &str, sites: Option<&str>, files: &[&str]) -> bool
     ensures { result ≡ do_clash out.now (option_map (λ name. name.now) sites.entry) (map (λ file. file.now) files.now) }
 {
@@ -236,7 +237,7 @@ fn exec<'a>(matches: &ArgMatches<'a>) -> Option<Command<'a>>
     let fuel = fuel(matches)?;
     let pages = pages(matches)?;
     let module = value(matches, "module")?;
-    // The input is the module's.
+    // The module itself reads standard input.
     if module == INPUT {
         return None;
     }
@@ -287,7 +288,42 @@ fn assemble<'a>(matches: &ArgMatches<'a>) -> Option<Command<'a>>
     Some(Command::Assemble(Assemble { out, file }))
 }
 
-/// The command of this name with these matches, or none where they give none.
+/// The form that is asked for, if it is one alone.
+fn form(matches: &ArgMatches<'_>) -> Option<DumpForm>
+    ensures { result ≡ form_in (rows_of (found_of matches.now)) }
+{
+    let asked = (
+        is_given(matches, "ast"),
+        is_given(matches, "typed"),
+        is_given(matches, "cfg"),
+        is_given(matches, "regions"),
+    );
+    match asked {
+        (true, false, false, false) => Some(DumpForm::Ast),
+        (false, true, false, false) => Some(DumpForm::Typed),
+        (false, false, true, false) => Some(DumpForm::Cfg),
+        (false, false, false, true) => Some(DumpForm::Regions),
+        _ => None,
+    }
+}
+
+fn dump<'a>(alloc: Global, matches: &ArgMatches<'a>) -> Result<Option<Command<'a>>, AllocError>
+    ensures { IfOk result (λ command. option_map line_of command ≡ dump_in (rows_of (found_of matches.now))) }
+{
+    let files = files(alloc, matches)?;
+    let Some(form) = form(matches) else {
+        return Ok(None);
+    };
+    Ok(Some(Command::Dump(Dump {
+        form,
+        contracts: contracts(matches),
+        all: is_given(matches, "all"),
+        detail: detail(matches),
+        files,
+    })))
+}
+
+/// The command with this name and these matches, or none where they don't make one.
 pub(crate) fn named<'a>(
     alloc: Global,
     name: &str,
@@ -304,6 +340,7 @@ pub(crate) fn named<'a>(
         "selftest" => Ok(selftest(matches)),
         "listing" => Ok(listing(matches)),
         "assemble" => Ok(assemble(matches)),
+        "dump" => dump(alloc, matches),
         _ => Ok(printing_command(name, matches)),
     }
 }

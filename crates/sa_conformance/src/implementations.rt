@@ -1,17 +1,17 @@
-//! Conformance: for each signature of each needed abstract type above a needed class, exactly one public feature of the class
-//! that isn't a constant conforms to it.
+//! Conformance: for each signature of each needed abstract supertype of a needed class, exactly one public feature of the class that isn't
+//! a constant conforms to it.
 
 use crate::features::{feature_of, may_implement};
 use crate::signatures::Signatures;
-use sa_ast::{NoMemory, Rejection, Rule, held};
+use failure::{Failure, Invariant, known, limit};
+use sa_ast::{Rejection, Rule};
 use sa_instantiate::Instances;
 use sa_overload::conforms;
-use sa_types::Sig;
+use sa_subst::Sig;
 use sqlite_items::Items;
 use std::alloc::Global;
 
-/// How many pairs of a signature and a type that implements it are listed. A program with so many has one more than the
-/// checker of bodies takes.
+/// The greatest number of listed pairs of a signature and a type that implements it: one more than the checker of bodies accepts.
 const MOST_LISTED: usize = 100_001;
 
 /// How many pairs are looked for. Past them the answer is that memory has run out, since a short source can have a hundred
@@ -25,15 +25,15 @@ pub struct ConformingMember {
     pub member: u32,
 }
 
-/// The members that implement each signature, by rising number of their types; of all signatures together the first
-/// 100,001 alone.
+/// The members that implement each signature, in ascending order of the numbers of their types; for all signatures together only the first
+/// 100,001.
 ///
 /// # Errors
 ///
 /// At the name of the first class in the order of need, and there by the first signature in the order of their numbers:
 /// E20 where no feature conforms, E21 where several do. E20 also at an abstract class of which a written signature doesn't
 /// conform to an inherited one that it hides. `NoMemory`, also where there are more than 1,000,000 pairs of a signature and
-/// a class below its type.
+/// a class that is a subtype of its type.
 pub fn check_conformance(
     alloc: Global,
     program: &Instances<'_>,
@@ -66,7 +66,7 @@ impl ImplementationSearch {
         alloc: Global,
         program: &Instances<'_>,
         signatures: &Signatures,
-    ) -> Result<ImplementationSearch, NoMemory> {
+    ) -> Result<ImplementationSearch, Failure> {
         let mut uppers = Vec::new(alloc);
         for ty in 0..program.count() {
             let (from, to) = signatures.of(ty);
@@ -85,7 +85,7 @@ impl ImplementationSearch {
         })
     }
 
-    /// Finds what a class gives for the signatures of all abstract types above it.
+    /// Finds the implementations by a class of the signatures of all its abstract supertypes.
     fn implement_all(
         &mut self,
         alloc: Global,
@@ -104,7 +104,7 @@ impl ImplementationSearch {
         Ok(())
     }
 
-    /// Finds what a class gives for the signatures of an abstract type.
+    /// Finds the implementations by a class of the signatures of an abstract type.
     fn implement(
         &mut self,
         alloc: Global,
@@ -121,15 +121,18 @@ impl ImplementationSearch {
         Ok(())
     }
 
-    fn hold(&mut self, place: u32, implementation: ConformingMember) -> Result<(), NoMemory> {
+    fn hold(&mut self, place: u32, implementation: ConformingMember) -> Result<(), Failure> {
         if self.pairs >= MOST_ASKED {
-            return Err(NoMemory);
+            return limit();
         }
         self.pairs = self.pairs.saturating_add(1);
         if self.pairs > MOST_LISTED {
             return Ok(());
         }
-        let list = held(self.by_signature.get_mut(place as usize))?;
+        let list = known(
+            self.by_signature.get_mut(place as usize),
+            Invariant::SignatureTable,
+        )?;
         list.push(implementation)?;
         Ok(())
     }
@@ -143,9 +146,12 @@ fn conforming(
     ty: u32,
     place: u32,
 ) -> Result<u32, Rejection> {
-    let origin = held(signatures.origin(place))?;
+    let origin = known(signatures.origin(place), Invariant::SignatureTable)?;
     let signature = program.signature(alloc, origin.from, origin.member)?;
-    let written = held(program.member(origin.from, origin.member))?;
+    let written = known(
+        program.member(origin.from, origin.member),
+        Invariant::SignatureTable,
+    )?;
     let name = feature_of(program, origin.from, written)?
         .name
         .name
@@ -169,8 +175,8 @@ fn does_implement(
     ty: u32,
     place: u32,
     signature: &Sig,
-) -> Result<bool, NoMemory> {
-    let member = held(program.member(ty, place))?;
+) -> Result<bool, Failure> {
+    let member = known(program.member(ty, place), Invariant::SignatureTable)?;
     if !may_implement(program, ty, member)? {
         return Ok(false);
     }
@@ -181,7 +187,7 @@ fn does_implement(
 /// The refusal at the name of a type's class.
 fn refused(rule: Rule, program: &Instances<'_>, ty: u32) -> Rejection {
     match program.class(ty) {
-        None => Rejection::NoMemory,
+        None => Rejection::Failed(Failure::Broken(Invariant::SignatureTable)),
         Some(class) => rule.at(class.name.pos).into(),
     }
 }

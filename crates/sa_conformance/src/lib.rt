@@ -1,5 +1,5 @@
-//! The signatures of the abstract types of a program, and the features that implement them: phase by phase the rules of
-//! inherited signatures and of conformance over a whole program.
+//! The signatures of the abstract types of a program, and the features that implement them: the rules of inherited signatures, and then of
+//! conformance, over a whole program.
 #![tactic(auto)]
 
 mod features;

@@ -2,18 +2,18 @@
 
 use crate::parents::parents;
 use crate::signature_keys::{SignatureKey, SignatureKeys};
+use failure::{Failure, Invariant, known, limit};
 use indexmap::IndexMap;
-use sa_ast::{NoMemory, held};
 use sa_graph::word;
 use sa_instantiate::{Instances, Member};
 use sa_overload::conforms;
 use sqlite_items::Items;
 use std::alloc::Global;
 
-/// How many signatures the types of a program have together at most.
+/// The greatest number of signatures that the types of a program have together.
 const MOST_SIGNATURES: usize = 4_194_304;
 
-/// A signature in a list: where it is written, and what makes it hide others and be the same as others.
+/// A signature in a list: where it is written, and by what it hides others and is the same as others.
 #[derive(Clone, Copy)]
 pub(crate) struct ListedSignature {
     pub from: u32,
@@ -37,17 +37,17 @@ pub(crate) struct Lists {
 struct GrowingList {
     ty: u32,
     list: Items<ListedSignature>,
-    /// The members of the type itself, by their shapes.
+    /// The members of the type itself, by their signature keys.
     own: IndexMap<SignatureKey, u32>,
-    /// The shapes and results of the signatures in the list. They make a signature the same as another.
+    /// The signature keys and results of the signatures in the list. Signatures are the same where both are.
     held: IndexMap<(SignatureKey, Option<u32>), ()>,
     /// Whether a signature of the type itself doesn't conform to an inherited one that it hides.
     unlike: bool,
 }
 
 impl Lists {
-    /// An empty list for each of so many types.
-    pub(crate) fn new(alloc: Global, types: u32) -> Result<Lists, NoMemory> {
+    /// An empty list for each of this many types.
+    pub(crate) fn new(alloc: Global, types: u32) -> Result<Lists, Failure> {
         let mut by_type = Vec::new(alloc);
         for _ in 0..types {
             by_type.push(Items::new(alloc))?;
@@ -60,13 +60,13 @@ impl Lists {
         })
     }
 
-    /// Makes the list of a type. The types after its `<` have theirs.
+    /// Makes the list of a type. The types after its `<` have theirs already.
     pub(crate) fn add(
         &mut self,
         alloc: Global,
         program: &Instances<'_>,
         ty: u32,
-    ) -> Result<(), NoMemory> {
+    ) -> Result<(), Failure> {
         let mut growing = self.own(alloc, program, ty)?;
         for parent in parents(alloc, program, ty)? {
             self.inherit(alloc, program, parent, &mut growing)?;
@@ -83,7 +83,7 @@ impl Lists {
         alloc: Global,
         program: &Instances<'_>,
         ty: u32,
-    ) -> Result<GrowingList, NoMemory> {
+    ) -> Result<GrowingList, Failure> {
         let mut growing = GrowingList {
             ty,
             list: Items::new(alloc),
@@ -92,7 +92,13 @@ impl Lists {
             unlike: false,
         };
         for (place, member) in program.members(ty).iter().enumerate() {
-            let listed = self.listed(alloc, program, ty, word(place)?, member)?;
+            let listed = self.listed(
+                alloc,
+                program,
+                ty,
+                word(place, Invariant::SignatureTable)?,
+                member,
+            )?;
             growing.own.insert(listed.shape, listed.member)?;
             growing.hold(listed)?;
         }
@@ -107,7 +113,7 @@ impl Lists {
         from: u32,
         place: u32,
         member: &Member,
-    ) -> Result<ListedSignature, NoMemory> {
+    ) -> Result<ListedSignature, Failure> {
         Ok(ListedSignature {
             from,
             member: place,
@@ -116,36 +122,39 @@ impl Lists {
         })
     }
 
-    /// Takes over the signatures of a type after the `<`, but for those that are hidden.
+    /// Inherits the signatures of a type after the `<`, except those that are hidden.
     fn inherit(
         &self,
         alloc: Global,
         program: &Instances<'_>,
         parent: u32,
         growing: &mut GrowingList,
-    ) -> Result<(), NoMemory> {
-        let inherited = held(self.by_type.get(parent as usize))?;
+    ) -> Result<(), Failure> {
+        let inherited = known(self.by_type.get(parent as usize), Invariant::SignatureTable)?;
         for listed in inherited.as_slice() {
             growing.take_over(alloc, program, listed)?;
         }
         Ok(())
     }
 
-    /// Keeps the list of a type.
-    fn keep(&mut self, growing: GrowingList) -> Result<(), NoMemory> {
+    /// Stores the list of a type.
+    fn keep(&mut self, growing: GrowingList) -> Result<(), Failure> {
         self.count = self.count.saturating_add(growing.list.len());
         if self.count > MOST_SIGNATURES {
-            return Err(NoMemory);
+            return limit();
         }
-        let place = held(self.by_type.get_mut(growing.ty as usize))?;
+        let place = known(
+            self.by_type.get_mut(growing.ty as usize),
+            Invariant::SignatureTable,
+        )?;
         *place = growing.list;
         Ok(())
     }
 }
 
 impl GrowingList {
-    /// Puts a signature at the end of the list, unless the same one is in it.
-    fn hold(&mut self, listed: ListedSignature) -> Result<(), NoMemory> {
+    /// Appends a signature to the list, unless the same one is in it.
+    fn hold(&mut self, listed: ListedSignature) -> Result<(), Failure> {
         let same = (listed.shape, listed.result);
         if self.held.insert(same, ())?.is_none() {
             self.list.push(listed)?;
@@ -153,13 +162,13 @@ impl GrowingList {
         Ok(())
     }
 
-    /// Takes over an inherited signature, unless it is hidden.
+    /// Adds an inherited signature, unless it is hidden.
     fn take_over(
         &mut self,
         alloc: Global,
         program: &Instances<'_>,
         listed: &ListedSignature,
-    ) -> Result<(), NoMemory> {
+    ) -> Result<(), Failure> {
         let Some(hiding) = self.own.get(&listed.shape).copied() else {
             return self.hold(*listed);
         };
@@ -177,7 +186,7 @@ fn hides(
     ty: u32,
     member: u32,
     inherited: &ListedSignature,
-) -> Result<bool, NoMemory> {
+) -> Result<bool, Failure> {
     let own = program.signature(alloc, ty, member)?;
     let other = program.signature(alloc, inherited.from, inherited.member)?;
     Ok(conforms(&own, &other, program.edges()))

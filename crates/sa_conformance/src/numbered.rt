@@ -3,8 +3,8 @@
 use crate::features::feature_of;
 use crate::listed::{ListedSignature, Lists};
 use crate::signatures::{Names, Origin, Signatures};
+use failure::{Failure, Invariant, known};
 use indexmap::IndexMap;
-use sa_ast::{NoMemory, held};
 use sa_graph::word;
 use sa_instantiate::Instances;
 use smallvec::SmallVec;
@@ -16,7 +16,7 @@ pub(crate) fn numbered(
     alloc: Global,
     program: &Instances<'_>,
     lists: &Lists,
-) -> Result<Signatures, NoMemory> {
+) -> Result<Signatures, Failure> {
     let mut signatures = Signatures {
         origins: Items::new(alloc),
         starts: Items::new(alloc),
@@ -25,7 +25,13 @@ pub(crate) fn numbered(
     };
     signatures.starts.push(0)?;
     for (ty, list) in lists.by_type.iter().enumerate() {
-        add_list(alloc, program, &mut signatures, word(ty)?, list.as_slice())?;
+        add_list(
+            alloc,
+            program,
+            &mut signatures,
+            word(ty, Invariant::SignatureTable)?,
+            list.as_slice(),
+        )?;
     }
     Ok(signatures)
 }
@@ -37,10 +43,10 @@ fn add_list(
     signatures: &mut Signatures,
     ty: u32,
     list: &[ListedSignature],
-) -> Result<(), NoMemory> {
+) -> Result<(), Failure> {
     let mut names = IndexMap::new(alloc);
     for listed in list {
-        let place = word(signatures.origins.len())?;
+        let place = word(signatures.origins.len(), Invariant::SignatureTable)?;
         add_name(alloc, program, &mut names, listed, place)?;
         signatures.origins.push(Origin {
             ty,
@@ -49,19 +55,24 @@ fn add_list(
         })?;
     }
     signatures.names.push(names)?;
-    signatures.starts.push(word(signatures.origins.len())?)?;
+    signatures
+        .starts
+        .push(word(signatures.origins.len(), Invariant::SignatureTable)?)?;
     Ok(())
 }
 
-/// Puts the number of a signature behind those of its name.
+/// Adds the number of a signature to those of its name.
 fn add_name(
     alloc: Global,
     program: &Instances<'_>,
     names: &mut Names,
     listed: &ListedSignature,
     place: u32,
-) -> Result<(), NoMemory> {
-    let member = held(program.member(listed.from, listed.member))?;
+) -> Result<(), Failure> {
+    let member = known(
+        program.member(listed.from, listed.member),
+        Invariant::SignatureTable,
+    )?;
     let name = feature_of(program, listed.from, member)?
         .name
         .name

@@ -1,6 +1,6 @@
-//! An order of the abstract types in which each stands behind those after its `<`.
+//! A topological order of the abstract types: each comes after those after its `<`.
 
-use sa_ast::{NoMemory, held};
+use failure::{Failure, Invariant, known};
 use sa_graph::Graph;
 use sa_instantiate::Instances;
 use std::alloc::Global;
@@ -10,19 +10,19 @@ pub(crate) fn parents(
     alloc: Global,
     program: &Instances<'_>,
     ty: u32,
-) -> Result<Vec<u32>, NoMemory> {
+) -> Result<Vec<u32>, Failure> {
     let mut numbers = Vec::new(alloc);
     let Some(class) = program.class(ty) else {
         return Ok(numbers);
     };
     for below in class.below.as_slice() {
-        numbers.push(held(program.number_of(ty, below))?)?;
+        numbers.push(known(program.number_of(ty, below), Invariant::SignatureTable)?)?;
     }
     Ok(numbers)
 }
 
-/// The numbers of the abstract types, each behind the types after its `<`.
-pub(crate) fn upper_first(alloc: Global, program: &Instances<'_>) -> Result<Vec<u32>, NoMemory> {
+/// The numbers of the abstract types, each after the types after its `<`.
+pub(crate) fn upper_first(alloc: Global, program: &Instances<'_>) -> Result<Vec<u32>, Failure> {
     let mut starts = Vec::new(alloc);
     let mut ends = Vec::new(alloc);
     for ty in 0..program.count() {
@@ -40,7 +40,7 @@ fn abstract_ones(
     alloc: Global,
     program: &Instances<'_>,
     types: &[u32],
-) -> Result<Vec<u32>, NoMemory> {
+) -> Result<Vec<u32>, Failure> {
     let mut numbers = Vec::new(alloc);
     for ty in types {
         if program.is_abstract(*ty) {

@@ -1,23 +1,24 @@
-//! The shapes of signatures. A signature that a type writes hides those of its shape that it would inherit.
+//! Signature keys. A signature that a type writes hides those with its key that it would inherit.
 
 use crate::features::feature_of;
+use failure::{Failure, Invariant, known};
 use indexmap::IndexMap;
-use sa_ast::{Mode, Name, NoMemory, held};
+use sa_ast::{Mode, Name};
 use sa_graph::word;
 use sa_instantiate::{Instances, Member};
 use std::alloc::Global;
 
-/// What a signature hides others by: its name, the modes and types of its arguments, and whether it has a result.
+/// The key by which a signature hides others: its name, the modes and types of its parameters, and whether it has a result.
 #[derive(Clone, Copy, PartialEq, Eq, Hash)]
 pub(crate) struct SignatureKey {
     /// The number of the name.
     name: u32,
-    /// The number of the list of arguments.
+    /// The number of the list of parameters.
     args: u32,
     gives: bool,
 }
 
-/// A list of arguments that isn't empty: its last one, behind the list of the others.
+/// A list of parameters that isn't empty: the list of all but the last, and the last one.
 #[derive(Clone, Copy, PartialEq, Eq, Hash)]
 struct ArgList {
     others: u32,
@@ -25,7 +26,7 @@ struct ArgList {
     ty: u32,
 }
 
-/// The names and the lists of arguments of signatures, each with a number.
+/// The names and the lists of parameters of signatures, each with a number.
 #[derive(Drop)]
 pub(crate) struct SignatureKeys {
     names: IndexMap<Name, ()>,
@@ -42,28 +43,28 @@ impl SignatureKeys {
         }
     }
 
-    /// The shape of a member of a type.
+    /// The signature key of a member of a type.
     pub(crate) fn of(
         &mut self,
         alloc: Global,
         program: &Instances<'_>,
         ty: u32,
         member: &Member,
-    ) -> Result<SignatureKey, NoMemory> {
+    ) -> Result<SignatureKey, Failure> {
         let feature = feature_of(program, ty, member)?;
         let (name, _) = self.names.insert_full(feature.name.name.copy(alloc)?, ())?;
         Ok(SignatureKey {
-            name: word(name)?,
+            name: word(name, Invariant::SignatureTable)?,
             args: self.args(program, ty, member)?,
             gives: member.result.is_some(),
         })
     }
 
-    /// The number of the list of a member's arguments.
-    fn args(&mut self, program: &Instances<'_>, ty: u32, member: &Member) -> Result<u32, NoMemory> {
+    /// The number of the list of a member's parameters.
+    fn args(&mut self, program: &Instances<'_>, ty: u32, member: &Member) -> Result<u32, Failure> {
         let mut list = 0;
         for (k, mode) in member.modes.as_slice().iter().enumerate() {
-            let ty = held(program.argument(ty, member, k))?;
+            let ty = known(program.argument(ty, member, k), Invariant::SignatureTable)?;
             list = self.longer(ArgList {
                 others: list,
                 mode: *mode,
@@ -74,8 +75,8 @@ impl SignatureKeys {
     }
 
     /// The number of a list that isn't empty.
-    fn longer(&mut self, list: ArgList) -> Result<u32, NoMemory> {
+    fn longer(&mut self, list: ArgList) -> Result<u32, Failure> {
         let (place, _) = self.lists.insert_full(list, ())?;
-        word(place.saturating_add(1))
+        word(place.saturating_add(1), Invariant::SignatureTable)
     }
 }

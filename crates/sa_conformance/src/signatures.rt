@@ -3,8 +3,8 @@
 use crate::listed::Lists;
 use crate::numbered::numbered;
 use crate::parents::upper_first;
+use failure::Failure;
 use indexmap::IndexMap;
-use sa_ast::NoMemory;
 use sa_instantiate::Instances;
 use smallvec::SmallVec;
 use sqlite_items::Items;
@@ -17,20 +17,20 @@ pub struct Origin {
     pub ty: u32,
     /// The number of the type that writes it.
     pub from: u32,
-    /// Its place among that type's members.
+    /// Its index among that type's members.
     pub member: u32,
 }
 
-/// The places of the signatures of a type by their name.
+/// The indices of the signatures of a type by their name.
 pub(crate) type Names = IndexMap<Vec<u8>, SmallVec<u32, 2>>;
 
-/// The signatures of a program, numbered by type, and in a type in the order in which it has them: those that it writes,
-/// then those of the types after its `<`, each once. A written one hides an inherited one with the same name, modes, argument
-/// types and presence of a result.
+/// The signatures of a program, numbered by type, and in a type in the order in which it has them: those that it writes, then those of the
+/// types after its `<`, each once. A written one hides an inherited one with the same name, modes, parameter types and presence of a
+/// result.
 #[derive(Drop)]
 pub struct Signatures {
     pub(crate) origins: Items<Origin>,
-    /// By type, the number of its first signature, and behind the last type the number of all.
+    /// By type, the number of its first signature, and at the end the number of all signatures.
     pub(crate) starts: Items<u32>,
     /// By type, the numbers of its signatures by their names.
     pub(crate) names: Items<Names>,
@@ -44,7 +44,7 @@ impl Signatures {
     /// # Errors
     ///
     /// `NoMemory`, also where the types have more than 4,194,304 signatures together.
-    pub fn make(alloc: Global, program: &Instances<'_>) -> Result<Signatures, NoMemory> {
+    pub fn make(alloc: Global, program: &Instances<'_>) -> Result<Signatures, Failure> {
         let mut lists = Lists::new(alloc, program.count())?;
         for ty in upper_first(alloc, program)? {
             lists.add(alloc, program, ty)?;
@@ -60,7 +60,7 @@ impl Signatures {
         }
     }
 
-    /// The numbers of a type's signatures, from the first one up to the second.
+    /// The numbers of a type's signatures: from the first number up to, but not including, the second.
     pub fn of(&self, ty: u32) -> (u32, u32) {
         let starts = self.starts.as_slice();
         let at = ty as usize;

@@ -3,7 +3,8 @@
 use crate::names::{Places, named, part};
 use crate::operators::{binary, unary};
 use crate::value::ConstValue;
-use sa_ast::{Expr, FeatureBody, Name, NoMemory};
+use failure::Failure;
+use sa_ast::{Expr, FeatureBody, Name};
 use sa_instantiate::{BOOL, CHAR, INT, Instances, STR};
 use std::alloc::Global;
 
@@ -58,7 +59,7 @@ impl FoldedConst<'_> {
     }
 
     /// Its value, where it has one.
-    pub(crate) fn value(&self, alloc: Global) -> Result<Option<ConstValue>, NoMemory> {
+    pub(crate) fn value(&self, alloc: Global) -> Result<Option<ConstValue>, Failure> {
         Ok(match self {
             FoldedConst::Int(Ok(value)) => Some(ConstValue::Int(*value)),
             FoldedConst::Bool(Ok(value)) => Some(ConstValue::Bool(*value)),
@@ -96,13 +97,13 @@ fn sum(value: Result<i32, ConstError>, more: u32) -> Result<i32, ConstError> {
 pub(crate) struct Folding<'f, 't, 'p> {
     pub program: &'t Instances<'p>,
     pub places: &'f Places,
-    /// The constants by their places, where they are folded and of the form and the type of a constant.
+    /// The constants by their indices, where they are folded and of the form and the type of a constant.
     pub folded: &'f [Option<FoldedConst<'t>>],
 }
 
 impl<'t> Folding<'_, 't, '_> {
-    /// The constant at a place: its expression and the number that is added to it. `None` where its expression isn't of
-    /// the form of a constant, or not of its type.
+    /// The constant at an index: its expression and the number that is added to it. `None` where its expression isn't of the form of a
+    /// constant, or not of its type.
     pub(crate) fn constant(&self, place: usize) -> Option<FoldedConst<'t>> {
         let ((class, feature), declared) = self.places.get_index(place)?;
         let first = match part(self.program, *class, *feature)? {

@@ -1,17 +1,18 @@
-//! Which constant an expression names: `b` is one of the class itself, and `C::b` one of another class, which must be public
-//! unless that is the class itself.
+//! Which constant an expression names: `b` is one of the class itself, and `C::b` one of another class, which must be public unless that is
+//! the class itself.
 
+use failure::Failure;
 use indexmap::IndexMap;
-use sa_ast::{Expr, ExprReceiver, FeatureBody, Name, NoMemory};
+use sa_ast::{Expr, ExprReceiver, FeatureBody, Name};
 use sa_instantiate::Instances;
 use std::alloc::Global;
 
-/// The constants of all instances, each by its instance and its place among the features there, in their order, with the
-/// number of the type that it is declared with.
+/// The constants of all instances, each by its instance and its index among the features there, in their order, with the number of the type
+/// that it is declared with.
 pub(crate) type Places = IndexMap<(u32, u32), Option<u32>>;
 
 /// The constants of all instances.
-pub(crate) fn places(alloc: Global, program: &Instances<'_>) -> Result<Places, NoMemory> {
+pub(crate) fn places(alloc: Global, program: &Instances<'_>) -> Result<Places, Failure> {
     let mut places = IndexMap::new(alloc);
     for class in 0..program.count() {
         add_places(program, class, &mut places)?;
@@ -19,7 +20,7 @@ pub(crate) fn places(alloc: Global, program: &Instances<'_>) -> Result<Places, N
     Ok(places)
 }
 
-fn add_places(program: &Instances<'_>, class: u32, places: &mut Places) -> Result<(), NoMemory> {
+fn add_places(program: &Instances<'_>, class: u32, places: &mut Places) -> Result<(), Failure> {
     for member in program.members(class) {
         if is_const(program, class, member.feature) {
             let ty = program.result(class, member);

@@ -1,11 +1,11 @@
-//! The operators that constants are folded by. Both operands are evaluated, but for `and` and `or`, of which the right one
-//! counts where the left one doesn't decide.
+//! The operators by which constants are folded. Both operands are evaluated, except for `and` and `or`, whose right operand counts only
+//! where the left one doesn't decide.
 
 use crate::folded::{ConstError, FoldedConst};
 use sa_ast::Operator;
 use std::cmp::Ordering;
 
-/// What an operator on two operands gives. `None` where there is no such operator on their types.
+/// The result of an operator on two operands. `None` where there is no such operator on their types.
 pub(crate) fn binary<'t>(
     op: Operator,
     left: FoldedConst<'t>,
@@ -19,7 +19,7 @@ pub(crate) fn binary<'t>(
     }
 }
 
-/// What an operator on one operand gives.
+/// The result of an operator on one operand.
 pub(crate) fn unary(op: Operator, of: FoldedConst<'_>) -> Option<FoldedConst<'_>> {
     match (op, of) {
         (Operator::Negate, FoldedConst::Int(value)) => Some(FoldedConst::Int(negated(value))),
@@ -71,7 +71,7 @@ fn or(left: Result<bool, ConstError>, right: Result<bool, ConstError>) -> Result
     }
 }
 
-/// The operands where both have a value; else what they lack.
+/// The operands where both have a value; else why they have none.
 fn both<T: Copy>(
     left: Result<T, ConstError>,
     right: Result<T, ConstError>,
@@ -93,7 +93,7 @@ fn arithmetic(
     calculated(op, left, right).ok_or(ConstError::OutOfRange)
 }
 
-/// The whole number that an operator of INT gives, unless it is out of range or divides by zero.
+/// The result of an operator of INT, unless it is out of range or divides by zero.
 fn calculated(op: Operator, left: i32, right: i32) -> Option<i32> {
     match op {
         Operator::Plus => left.checked_add(right),
@@ -115,7 +115,7 @@ fn order<T: Copy + Ord>(
     Ok(left.cmp(&right))
 }
 
-/// What a comparison of operands that compare so gives. `None` where the operator is none.
+/// The result of a comparison of operands that compare like this. `None` where the operator is no comparison.
 fn compared<'t>(op: Operator, order: Result<Ordering, ConstError>) -> Option<FoldedConst<'t>> {
     if !matches!(
         op,
@@ -129,7 +129,7 @@ fn compared<'t>(op: Operator, order: Result<Ordering, ConstError>) -> Option<Fol
     }))
 }
 
-/// Whether a comparison holds of values that compare so.
+/// Whether a comparison is true of values that compare like this.
 fn holds(op: Operator, order: Ordering) -> bool {
     match op {
         Operator::Eq => order == Ordering::Equal,

@@ -1,4 +1,4 @@
--- The checks that are asked, feature by feature from the last one on.
+-- The checks that must be quiet, feature by feature from the last one on.
 use Rattle.std.proofs.Common.{◌≡◌, ℕ, ◌+◌, cond, List, [], ◌∷◌, ◌++◌, length, Some, refl, sym, ap, ◌∙◌, append_assoc, zero-add, arith}
 use Rattle.std.proofs.lemmas.List.{append-nil}
 use Rattle.indexmap.specs.IndexMap.{Updates}
@@ -14,7 +14,7 @@ use Rattle.sa_contracts.specs.WovenClasses.{FeatureDuties}
 pub asked-more : (before after : Checks) (name : Pos) (checks : BodyChecks) → Updates same_pos before.by_name after.by_name name (Some checks) → asked_by after ≡ asked_first (record { name = name; checks = checks } ∷ []) (asked_by before)
 asked-more before after name checks added = λ i pos. added.0 pos i
 
--- a list behind another
+-- a list after another
 asked-append : (list following : List NamedChecks) (others : Asked) → asked_first (list ++ following) others ≡ asked_first list (asked_first following others)
 asked-append [] following others = refl
 asked-append (f ∷ more) following others =
@@ -40,7 +40,7 @@ module _ (keeps : FeatureDuties) where
       ap (λ list. features_checks keeps from 0 first.features ++ list) (classes-snoc (from + 1) more c ∙ ap (λ n. woven_checks keeps (from + 1) more ++ features_checks keeps n 0 c.features) same)
       ∙ sym (append_assoc (features_checks keeps from 0 first.features) (woven_checks keeps (from + 1) more) (features_checks keeps (from + length (first ∷ more)) 0 c.features))
 
-  -- the checks of the last feature are asked before those that are asked already
+  -- the checks of the last feature come before those that are collected already
   pub features-asked : (class : ℕ) (rest shorter : List Feature) (f : Feature) (before after : Asked) → rest ≡ shorter ++ f ∷ [] → after ≡ asked_first (feature_checks f (keeps class (length shorter) f)) before → asked_first (features_checks keeps class 0 rest) before ≡ asked_first (features_checks keeps class 0 shorter) after
   features-asked class rest shorter f before after popped is =
       ap (λ (list : List Feature). asked_first (features_checks keeps class 0 list) before) popped
@@ -57,7 +57,7 @@ module _ (keeps : FeatureDuties) where
       ∙ asked-append (woven_checks keeps 0 shorter) (features_checks keeps (length shorter) 0 c.features) before
       ∙ ap (asked_first (woven_checks keeps 0 shorter)) (sym is)
 
--- the same is asked by two tables that say the same of each feature
+-- two tables that agree on each feature ask for the same checks
 pub same-asked : (keeps others : FeatureDuties) → ((class feature : ℕ) (f : Feature) → keeps class feature f ≡ others class feature f) → (classes : List Class) → asked (woven_checks keeps 0 classes) ≡ asked (woven_checks others 0 classes)
 same-asked keeps others same classes =
     let all : keeps ≡ others = λ i class feature f. same class feature f i in

@@ -1,4 +1,4 @@
--- The first check that isn't quiet, from a place on.
+-- The first check that isn't quiet, from an index on.
 use Rattle.std.proofs.Common.{◌≡◌, ℕ, ◌+◌, ◌<◌, true, false, true≢false, List, [], ◌∷◌, Option, None, Some, length, get_or, drop, add-one, drop-cons, refl, sym, ap, ◌∙◌, arith}
 use Rattle.std.proofs.Math.Seq.{drop-length}
 use Rattle.std.specs.Option.{is_some, option_or}
@@ -24,7 +24,7 @@ loud_tests-drop check xs i x h e =
     rw (add-one, drop-cons xs i x, ← e) in
     step ∙ ap (λ (t : Exprs × Stmts). option_or (loud_exprs check t.0) (loud_tests check (tests_of (drop (i + 1) xs)))) (test_of-parts x)
 
--- the first of two that may be missing
+-- the first of two options that is there
 or-found : (found more : Option Pos) → is_some found ≡ true → option_or found more ≡ found
 or-found None more is = absurd (true≢false (sym is))
 or-found (Some pos) more is = refl
@@ -62,7 +62,7 @@ module _ (w : FeatureChecks) where
       rw (add-one, drop-cons xs i x, ← e) in
       step ∙ ap (λ (a : ℕ × ℕ × Stmts). option_or (first_in_block w a.2) (first_in_arms w (arms_of (drop (i + 1) xs)))) (arm_of-parts x)
 
-  -- a test behind which one check is loud, and a branch
+  -- a test in whose statements a check is loud, and a branch
   pub test-found : (xs : List TypedBranch) (i : ℕ) (x : TypedBranch) (inside : List TypedStmt) (found : Option Pos) → i < length xs → x ≡ get_or xs i x → inside ≡ x.body → found ≡ first_in_block w (block_of inside) → is_some found ≡ true → first_in_tests w (tests_of (drop i xs)) ≡ found
   test-found xs i x inside found h e same is some =
       first_in_tests-drop xs i x h e

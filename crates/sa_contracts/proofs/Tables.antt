@@ -1,4 +1,4 @@
--- The table of contracts, behind one more contract.
+-- The table of contracts, after one more contract.
 use Rattle.std.proofs.Common.{◌≡◌, ℕ, ◌+◌, ◌<◌, Bool, true, false, cond, nat_eq, List, Option, None, Some, length, get_or, take, if◌then◌else◌, refl, sym, ap, ◌∙◌}
 use Rattle.std.proofs.lemmas.List.Sums.{fold_more}
 use Rattle.std.specs.Borrow.{Bor}
@@ -64,13 +64,13 @@ has-more table more contracts i c within is has one = record {
       ∙ sym (fold_more (invariant_after class) None contracts i c within);
 }
 
--- the table says of each feature what the contracts say
+-- the table has for each feature what the contracts say
 same-duties : (table : ContractTable) (contracts : List Contract) → HasContracts table contracts → (class feature : ℕ) (f : Feature) → duties_in table class feature f ≡ duties_of contracts class feature f
 same-duties table contracts has class feature f =
     ap (λ (c : Option Condition × Option Condition). duties c (invariant_in table class) f) (has.of_features class feature)
     ∙ ap (λ (holds : Option Condition). duties (clauses_of contracts class feature) holds f) (has.of_classes class)
 
--- classes are woven by the table as by the contracts, and the same checks are asked
+-- classes are woven by the table as by the contracts, and the checks are the same
 pub woven-by : (table : ContractTable) (contracts : List Contract) → HasContracts table contracts → (classes : List Class) → woven_classes (duties_in table) 0 classes ≡ woven_classes (duties_of contracts) 0 classes
 woven-by table contracts has classes = same-classes (duties_in table) (duties_of contracts) (same-duties table contracts has) classes
 

@@ -190,7 +190,7 @@ declared_by-Index None at pos before =
 declared_by-Index (Some inside) at pos before =
     ap (λ (k : Taking Expr). (k before).1) (ap taking (sym (e.rolls-Index (Some inside) at pos)) ∙ taking-roll (Expr-F.Index (Some inside) at pos))
 
--- the parts of an element are done one behind the other
+-- the parts of an element are done one after the other
 pub index-taken : (form : Expr) (of put : Option Expr) (at inside : List Expr) (pos : Pos) (before after : List Stmt) → form ≡ e.Index of at pos → put ≡ replaced_option of before → after ≡ declared_by_option of before → inside ≡ at → e.Index put (replaced_exprs inside after) pos ≡ replaced form before
 index-taken form of put at inside pos before after is taken declared same =
     ap (λ (d : Option Expr). e.Index d (replaced_exprs inside after) pos) taken

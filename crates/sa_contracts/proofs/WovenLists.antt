@@ -22,7 +22,7 @@ module _ (keeps : FeatureDuties) where
       let same : (from + 1) + length more ≡ from + length (first ∷ more) = omega arith in
       ap (λ list. woven_class keeps from first ∷ list) (classes-snoc (from + 1) more c ∙ ap (λ n. woven_classes keeps (from + 1) more ++ woven_class keeps n c ∷ []) same)
 
-  -- one more feature in front of those that are done, of which the last is the first
+  -- one more feature before those that are done, of which the last is the first
   pub features-popped : (class : ℕ) (rest shorter : List Feature) (f woven : Feature) (done after : List Feature) → rest ≡ shorter ++ f ∷ [] → woven ≡ woven_feature f (keeps class (length shorter) f) → after ≡ done ++ woven ∷ [] → woven_features keeps class 0 rest ++ reverse done ≡ woven_features keeps class 0 shorter ++ reverse after
   features-popped class rest shorter f woven done after popped is put =
       let at_end : woven_features keeps class 0 rest ≡ woven_features keeps class 0 shorter ++ woven ∷ [] =
@@ -47,7 +47,7 @@ module _ (keeps : FeatureDuties) where
       ∙ append_assoc (woven_classes keeps 0 shorter) (woven ∷ []) (reverse done)
       ∙ ap (λ list. woven_classes keeps 0 shorter ++ list) (sym in_front)
 
--- classes are woven alike by two tables that say the same of each feature
+-- two tables that agree on each feature weave classes alike
 pub same-classes : (keeps others : FeatureDuties) → ((class feature : ℕ) (f : Feature) → keeps class feature f ≡ others class feature f) → (classes : List Class) → woven_classes keeps 0 classes ≡ woven_classes others 0 classes
 same-classes keeps others same classes =
     let all : keeps ≡ others = λ i class feature f. same class feature f i in

@@ -1,4 +1,4 @@
--- Which conditions and words `initial` the checks of a program are asked about, feature by feature.
+-- Which conditions and words `initial` of a program must be quiet, feature by feature.
 use Rattle.std.specs.Prelude.{ℕ, ◌+◌, Bool, ◌&&◌, nat_eq, List, [], ◌∷◌, ◌++◌, map, Option, None, Some, if◌then◌else◌}
 use Rattle.std.specs.List.{flat_map}
 use Rattle.indexmap.specs.IndexMap.{get}
@@ -41,13 +41,13 @@ declared_level other = []
 unfoldable pub declared_at : Stmt → List Pos
 declared_at s = declared_level (out-Stmt s)
 
--- its conditions are where they are written, and its words `initial` where the variables of the `post` are declared, in order
+-- its conditions, by where they are written, and its words `initial`, by where the variables of the `post` are declared, in order
 abbrev pub body_checks : Duties → BodyChecks
 body_checks d = record { conditions = positions_of d; initials = flat_map declared_at (post_declared d.post) }
 
 -- ---- in a program, in the order of the features
 
--- the checks of a feature, which is told by the position of its name
+-- the checks of a feature, which is identified by the position of its name
 pub record NamedChecks : Type 0 where
   pub name : Pos
   pub checks : BodyChecks
@@ -71,7 +71,7 @@ abbrev pub woven_checks : FeatureDuties → ℕ → List Class → List NamedChe
 woven_checks keeps from [] = []
 woven_checks keeps from (c ∷ more) = features_checks keeps from 0 c.features ++ woven_checks keeps (from + 1) more
 
--- ---- which checks a feature is asked for
+-- ---- which checks of a feature must be quiet
 
 abbrev pub same_pos : Pos → Pos → Bool
 same_pos a b = nat_eq a.file b.file && nat_eq a.at b.at
@@ -86,7 +86,7 @@ asked_by c name = get same_pos c.by_name name
 abbrev pub nothing_asked : Asked
 nothing_asked name = None
 
--- the first with this name in the list, or else what is asked otherwise
+-- those of the first with this name in the list, or else a default
 abbrev pub asked_first : List NamedChecks → Asked → Asked
 asked_first [] others name = others name
 asked_first (f ∷ more) others name = if same_pos f.name name then Some f.checks else asked_first more others name

@@ -39,7 +39,7 @@ invariant_in table class = option_copied (get nat_eq table.invariants class)
 abbrev pub duties_in : ContractTable → ℕ → ℕ → Feature → Duties
 duties_in table class feature f = duties (clauses_in table class feature) (invariant_in table class) f
 
--- a table has what another has, behind one more contract
+-- a table has what another has, after one more contract
 pub record HasOneMore (table more : ContractTable) (contract : Contract) : Type 0 where
   pub of_features : (class feature : ℕ)
       → clauses_in more class feature ≡ clauses_after class feature (clauses_in table class feature) contract

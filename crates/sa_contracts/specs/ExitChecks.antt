@@ -1,4 +1,4 @@
--- Statements in which what a feature keeps is checked wherever it gives a value to its caller.
+-- Statements in which what a feature keeps is checked wherever it returns or yields.
 use Rattle.std.specs.Prelude.{ℕ, List, [], ◌∷◌, ◌++◌, length, ◌==◌, if◌then◌else◌, Option, None, Some, true, codes}
 use Rattle.sa_ast.specs.declared.contract.Condition.{Condition}
 use Rattle.sa_ast.specs.declared.expr.Expr.{Expr}
@@ -41,7 +41,7 @@ result_read pos = e.Call r.Implied result_word [] pos
 abbrev pub result_declared : Option Ty → Expr → Pos → Stmt
 result_declared ty value pos = s.Declare (result_local pos ∷ []) ty (Some value)
 
--- the value is kept in `result`, the conditions are asserted, and `result` is given
+-- the value is saved in `result`, the conditions are asserted, and `result` is returned or yielded
 abbrev pub checked_list : List Condition → Option Ty → Giving → Option Expr → Pos → List Stmt
 checked_list conditions ty form None pos = asserts_of conditions ++ gives form None pos ∷ []
 checked_list conditions ty form (Some value) pos =
@@ -54,12 +54,12 @@ always_arm body pos = record { test = e.Bool true pos; body = body }
 abbrev pub always : List Stmt → Pos → Stmt
 always body pos = s.If (always_arm body pos ∷ []) [] pos
 
--- what stands for it: itself, where nothing is kept
+-- what replaces it: itself, where nothing is kept
 abbrev pub checked : List Condition → Option Ty → Giving → Option Expr → Pos → Stmt
 checked conditions ty form value pos =
     if length conditions == 0 then gives form value pos else always (checked_list conditions ty form value pos) pos
 
--- ---- one level of a statement and of an arm: the statements inside are done already
+-- ---- one level of a statement and of an arm: the nested statements are done already
 
 abbrev pub leaving_level : List Condition → Option Ty → Stmt-F Stmt BranchArm CaseArm TypeArm → Stmt
 leaving_level conditions ty (Stmt-F.Return value pos) = checked conditions ty giving.Return value pos
@@ -75,7 +75,7 @@ case_arm_level a = record { values = a.values; body = a.body }
 abbrev pub type_arm_level : TypeArm-F Stmt BranchArm CaseArm TypeArm → TypeArm
 type_arm_level a = record { ty = a.ty; body = a.body }
 
--- ---- statements and arms: each `return` and `yield` in them is checked, all else stays
+-- ---- statements and arms: each `return` and `yield` in them is checked, all else is unchanged
 
 unfoldable pub leaving : List Condition → Option Ty → Stmt → Stmt
 leaving conditions ty =

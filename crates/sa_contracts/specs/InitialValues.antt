@@ -49,7 +49,7 @@ value_in argument = value_level (out-ExprArg argument)
 abbrev pub value_of : List ExprArg → Option Expr
 value_of arguments = fold (λ before argument. value_in argument) None arguments
 
--- ---- what stands in place of a form behind declarations, and these declarations with its own behind them
+-- ---- what replaces a form after declarations, and these declarations with the form's own after them
 
 abbrev pub Taking : Type 0 → Type 0
 Taking A = List Stmt → A × List Stmt
@@ -69,7 +69,7 @@ abbrev pub call_replaced : List ℕ → ExprReceiver → List ExprArg → Pos �
 call_replaced name on arguments pos number =
     if pointwise nat_eq name initial_word then variable_read number pos else e.Call on name arguments pos
 
--- an `initial` declares its variable, by the number of those before
+-- an `initial` declares its variable, numbered by those before
 abbrev pub call_declared : List ℕ → List ExprArg → Pos → List Stmt → List Stmt
 call_declared name arguments pos before =
     if pointwise nat_eq name initial_word
@@ -122,7 +122,7 @@ taking_argument = fold-ExprArg (Taking Expr) (Taking ExprArg) (Taking ExprReceiv
 unfoldable pub taking_receiver : ExprReceiver → Taking ExprReceiver
 taking_receiver = fold-ExprReceiver (Taking Expr) (Taking ExprArg) (Taking ExprReceiver) expr_level argument_level receiver_level
 
--- ---- the form with a variable in place of each `initial`, where these declarations stand before
+-- ---- the form with a variable in place of each `initial`, where these declarations come before
 
 unfoldable pub replaced : Expr → List Stmt → Expr
 replaced form before = (taking form before).0
@@ -142,7 +142,7 @@ replaced_arguments list before = (each (map taking_argument list) before).0
 unfoldable pub replaced_option : Option Expr → List Stmt → Option Expr
 replaced_option form before = (if_any (option_map taking form) before).0
 
--- ---- these declarations, and behind them those of the form's variables
+-- ---- these declarations, and after them those of the form's variables
 
 unfoldable pub declared_by : Expr → List Stmt → List Stmt
 declared_by form before = (taking form before).1

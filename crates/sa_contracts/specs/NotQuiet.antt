@@ -1,5 +1,5 @@
--- The first check of a woven program that isn't quiet: in the order of its features and of their statements, and in the test of a
--- check before the statements inside.
+-- The first check of a woven program that isn't quiet: in the order of its features and of their statements, and in the test of a check
+-- before its nested statements.
 use Rattle.std.specs.Prelude.{ℕ, ◌-◌, Bool, true, false, ◌&&◌, List, [], ◌∷◌, Option, None, Some}
 use Rattle.std.specs.Prelude.{if◌then◌else◌, nat_lt, length, slice_get}
 use Rattle.std.specs.List.{list_any}
@@ -18,17 +18,17 @@ use Rattle.sa_contracts.specs.Quiet.{is_quiet}
 
 -- ---- which checks there are in a feature
 
--- the positions of its conditions, and of its words `initial` in order, and how many arguments it has
+-- the positions of its conditions, and of its words `initial` in order, and how many parameters it has
 pub record FeatureChecks : Type 0 where
   pub conditions : List Pos
   pub initials : List Pos
   pub arguments : ℕ
 
--- the variables behind the arguments have the values of the `initial`s, in order
+-- the variables after the parameters have the values of the `initial`s, in order
 abbrev pub initial_of : FeatureChecks → ℕ → Option Pos
 initial_of w variable = if nat_lt variable w.arguments then None else slice_get w.initials (variable - w.arguments)
 
--- a condition is tested where the program stops by an assert at its position otherwise
+-- a condition is tested where the program otherwise stops by an assert at its position
 abbrev pub is_assert : FaultKind → Bool
 is_assert fault.Assert = true
 is_assert _ = false
@@ -89,7 +89,7 @@ abbrev mutual
 abbrev pub plain_checks : InFeature → FeatureChecks
 plain_checks w = record { conditions = w.conditions.now; initials = w.initials.now; arguments = w.arguments }
 
--- the checks of a feature with so many arguments
+-- the checks of a feature with this many parameters
 abbrev pub checks_with : ℕ → BodyChecks → FeatureChecks
 checks_with arguments b = record { conditions = b.conditions; initials = b.initials; arguments = arguments }
 
@@ -97,7 +97,7 @@ abbrev pub first_in_body : Option BodyChecks → TypedFeature → Option Pos
 first_in_body None f = None
 first_in_body (Some b) f = first_in_block (checks_with (length f.modes) b) (block_of f.body)
 
--- of the checks that are asked by the position of its name
+-- of the checks that are looked up by the position of its name
 abbrev pub first_in_feature : Asked → TypedFeature → Option Pos
 first_in_feature asked f = first_in_body (asked f.pos) f
 

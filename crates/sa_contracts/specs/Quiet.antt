@@ -1,4 +1,4 @@
--- Which expressions are quiet: they make no object, change nothing, put nothing out and take nothing in.
+-- Which expressions are quiet: they create no object, change nothing, write no output and read no input.
 use Rattle.std.specs.Prelude.{Bool, true, false, ◌&&◌}
 use Rattle.sa_typed.specs.Tree.{Expr, Int, Truth, Char, Text, VoidValue, SelfRef, Var, IsVoid}
 use Rattle.sa_typed.specs.Tree.{Call, Reversed, And, Or, Arg, Value, Args, no_args, arg}
@@ -10,7 +10,7 @@ use Rattle.sa_prelude.specs.declared.feature.BuiltinFeature.{BuiltinFeature}
 use Rattle.sa_prelude.specs.declared.feature.BuiltinFeature.TheVariants.{IntStr, CharStr, StrCat, StrSubstring, StrOf, OutPut}
 use Rattle.sa_prelude.specs.declared.feature.BuiltinFeature.TheVariants.{OutPutInt, OutPutChar, InGetByte, ArefAset, ArrayCreate}
 
--- all built-in features but those that make a text or an array, set an element, put or take
+-- all built-in features but those that create a text or an array, set an element, write output or read input
 abbrev pub reads_alone : BuiltinFeature → Bool
 reads_alone IntStr = false
 reads_alone CharStr = false
@@ -29,13 +29,13 @@ abbrev pub is_quiet_builtin : Target → Bool
 is_quiet_builtin (target.Builtin feature) = reads_alone feature
 is_quiet_builtin _ = false
 
--- an attribute or a shared is read, or a built-in feature reads alone
+-- an attribute or a shared is read, or a built-in feature only reads
 abbrev pub is_quiet_target : Target → Bool
 is_quiet_target (target.Get place) = true
 is_quiet_target (target.GetShared number) = true
 is_quiet_target called = is_quiet_builtin called
 
--- what is reached is known, and is one of these
+-- the callee is statically known, and is one of these
 abbrev pub is_quiet_call : TypedCallee → Bool
 is_quiet_call (Static called class) = is_quiet_target called
 is_quiet_call _ = false

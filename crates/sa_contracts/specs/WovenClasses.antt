@@ -25,7 +25,7 @@ pub record Duties : Type 0 where
   pub post : Option Condition
   pub invariant : Option Condition
 
--- the `pre` and the `post` that are written for the feature at a place, of several the last
+-- the `pre` and the `post` that are written for a feature; of several, the last
 abbrev pub clauses_after : ℕ → ℕ → Option Condition × Option Condition → Contract → Option Condition × Option Condition
 clauses_after class feature before (contract.Clauses of at pre post) =
     if (of == class) && (at == feature) then (pre, post) else before
@@ -34,7 +34,7 @@ clauses_after class feature before (contract.Invariant of holds) = before
 abbrev pub clauses_of : List Contract → ℕ → ℕ → Option Condition × Option Condition
 clauses_of contracts class feature = fold (clauses_after class feature) (None, None) contracts
 
--- the invariant of a class, of several the last
+-- the invariant of a class; of several, the last
 abbrev pub invariant_after : ℕ → Option Condition → Contract → Option Condition
 invariant_after class before (contract.Clauses of at pre post) = before
 invariant_after class before (contract.Invariant of holds) = if of == class then Some holds else before
@@ -81,7 +81,7 @@ abbrev pub checked_invariant : Option Condition → List Condition
 checked_invariant None = []
 checked_invariant (Some invariant) = unless_void invariant ∷ []
 
--- what is checked where the feature gives a value or ends without one: the `post`, and behind it the invariant
+-- what is checked where the feature returns, yields or ends without a value: the `post`, and after it the invariant
 abbrev pub checked_conditions : Duties → List Condition
 checked_conditions d = checked_post d.post ++ checked_invariant d.invariant
 
@@ -89,7 +89,7 @@ abbrev pub pre_asserted : Option Condition → List Stmt
 pre_asserted None = []
 pre_asserted (Some pre) = asserts_of (pre ∷ [])
 
--- a routine without a result may come to its end
+-- execution may reach the end of a routine without a result
 abbrev pub ends_without_value : Feature → Bool
 ends_without_value f = not (is_some f.result) && not (is_iter_name f.name.name)
 
@@ -97,7 +97,7 @@ ends_without_value f = not (is_some f.result) && not (is_iter_name f.name.name)
 abbrev pub end_checks : Feature → List Condition → List Stmt
 end_checks f conditions = if ends_without_value f then asserts_of conditions else []
 
--- the `pre` is asserted, the `initial`s are kept, and then come the statements, each `return` and `yield` of which is checked
+-- the `pre` is asserted, the `initial`s are saved, and then come the statements, each `return` and `yield` of which is checked
 abbrev pub woven_body : Feature → Duties → List Stmt → List Stmt
 woven_body f d body =
     pre_asserted d.pre ++ post_declared d.post
@@ -112,7 +112,7 @@ FeatureDuties = ℕ → ℕ → Feature → Duties
 abbrev pub has_duties : Duties → Bool
 has_duties d = is_some d.pre || is_some d.post || is_some d.invariant
 
--- a routine or an iter that has something to keep has its body woven, and all else stays
+-- a routine or an iter that has something to keep has its body woven, and all else is unchanged
 abbrev pub woven_part : Feature → Duties → FeatureBody → FeatureBody
 woven_part f d (part.Routine body) = if has_duties d then part.Routine (woven_body f d body) else part.Routine body
 woven_part f d other = other

@@ -5,11 +5,12 @@ ghost use Rattle.sa_contracts.specs.Assertions.{assert_of, asserts_of, unless_vo
 
 use crate::budget::Budget;
 use crate::copy::copy_expr;
-use sa_ast::{Condition, Expr, NoMemory, Operator, Stmt, Ty};
+use failure::Failure;
+use sa_ast::{Condition, Expr, Operator, Stmt, Ty};
 use sqlite_items::{Boxed, Items};
 use std::alloc::Global;
 
-/// What a feature keeps: what is asserted where it gives a value to its caller, or ends without one.
+/// What a feature keeps: what is asserted where it returns or yields a value to its caller, or ends without one.
 #[derive(Clone, Copy)]
 pub(crate) struct ExitConditions<'a> {
     pub(crate) conditions: &'a [Condition],
@@ -22,20 +23,20 @@ pub(crate) fn asserted(
     alloc: Global,
     condition: &Condition,
     budget: &mut Budget,
-) -> Result<Stmt, NoMemory>
+) -> Result<Stmt, Failure>
     ensures { IfOk result (λ check. check ≡ assert_of condition.now) }
 {
     let test = copy_expr(alloc, &condition.test, budget)?;
     Ok(Stmt::Assert(test, condition.pos))
 }
 
-/// Puts the asserts of the conditions at the end of the list.
+/// Appends the asserts of the conditions to the list.
 pub(crate) fn add_asserts(
     alloc: Global,
     conditions: &[Condition],
     list: &mut Items<Stmt>,
     budget: &mut Budget,
-) -> Result<(), NoMemory>
+) -> Result<(), Failure>
     ensures { OnOk result (list.new ≡ list.old ++ asserts_of conditions.now) }
 {
     for condition in conditions {
@@ -49,7 +50,7 @@ pub(crate) fn of_object(
     alloc: Global,
     invariant: &Condition,
     budget: &mut Budget,
-) -> Result<Condition, NoMemory>
+) -> Result<Condition, Failure>
     ensures { IfOk result (λ condition. condition ≡ unless_void invariant.now) }
 {
     let pos = invariant.pos;

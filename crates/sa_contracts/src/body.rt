@@ -1,4 +1,4 @@
-//! The body of a feature with what its contract says woven in.
+//! The body of a feature with its contract woven in.
 
 ghost use Rattle.std.specs.Prelude.{◌≡◌, [], ◌++◌, IfOk, OnOk, map};
 ghost use Rattle.std.specs.List.{flat_map};
@@ -15,7 +15,8 @@ use crate::checks::BodyChecks;
 use crate::contracts::{FeatureContract, is_iter};
 use crate::initials::take_initials;
 use crate::statements::check_leaving;
-use sa_ast::{Condition, Feature, Local, NoMemory, Pos, Stmt};
+use failure::Failure;
+use sa_ast::{Condition, Feature, Local, Pos, Stmt};
 use sqlite_items::Items;
 use std::alloc::Global;
 
@@ -35,7 +36,7 @@ pub(crate) fn weave_body(
     body: &[Stmt],
     contract: &FeatureContract<'_>,
     budget: &mut Budget,
-) -> Result<WovenBody, NoMemory>
+) -> Result<WovenBody, Failure>
     ensures body { IfOk result (λ woven. woven.list ≡ woven_body feature.now (plain_duties contract.now) body.now) }
     ensures checks { IfOk result (λ woven. woven.checks ≡ body_checks (plain_duties contract.now)) }
 {
@@ -63,7 +64,7 @@ fn woven_list(
     declared: Items<Stmt>,
     conditions: Items<Condition>,
     budget: &mut Budget,
-) -> Result<Items<Stmt>, NoMemory>
+) -> Result<Items<Stmt>, Failure>
     ensures { IfOk result (λ list. list ≡ pre_asserted (option_copied pre.entry) ++ declared
         ++ map (leaving conditions feature.now.result) body.now ++ end_checks feature.now conditions) }
 {
@@ -75,14 +76,14 @@ fn woven_list(
     checked_body(alloc, start, feature, body, &kept, budget)
 }
 
-/// What is asserted where the feature gives a value to its caller or ends without one: its `post`, with variables in place of
+/// What is asserted where the feature returns or yields a value to its caller or ends without one: its `post`, with variables in place of
 /// its `initial`s, and the invariant. The variables' declarations are put into the list, which is empty.
 fn conditions_of(
     alloc: Global,
     contract: &FeatureContract<'_>,
     declared: &mut Items<Stmt>,
     budget: &mut Budget,
-) -> Result<Items<Condition>, NoMemory>
+) -> Result<Items<Condition>, Failure>
     requires { declared.old ≡ [] }
     ensures conditions { IfOk result (λ conditions. conditions ≡ checked_conditions (plain_duties contract.now)) }
     ensures declarations { OnOk result (declared.new ≡ post_declared (option_copied contract.now.post)) }
@@ -93,15 +94,15 @@ fn conditions_of(
     Ok(conditions)
 }
 
-/// Puts the `post`, if there is one, at the end of the conditions, with variables in place of its `initial`s. The variables'
-/// declarations are put into the list, which is empty.
+/// Appends the `post`, if there is one, to the conditions, with variables in place of its `initial`s. The variables' declarations are put
+/// into the list, which is empty.
 fn add_post(
     alloc: Global,
     post: Option<&Condition>,
     conditions: &mut Items<Condition>,
     declared: &mut Items<Stmt>,
     budget: &mut Budget,
-) -> Result<(), NoMemory>
+) -> Result<(), Failure>
     requires { declared.old ≡ [] }
     ensures conditions { OnOk result (conditions.new ≡ conditions.old ++ checked_post (option_copied post.entry)) }
     ensures declarations { OnOk result (declared.new ≡ post_declared (option_copied post.entry)) }
@@ -117,13 +118,13 @@ fn add_post(
     }
 }
 
-/// Puts the invariant, if there is one, at the end of the conditions, as a routine asserts it.
+/// Appends the invariant, if there is one, to the conditions, as a routine asserts it.
 fn add_invariant(
     alloc: Global,
     invariant: Option<&Condition>,
     conditions: &mut Items<Condition>,
     budget: &mut Budget,
-) -> Result<(), NoMemory>
+) -> Result<(), Failure>
     ensures { OnOk result (conditions.new ≡ conditions.old ++ checked_invariant (option_copied invariant.entry)) }
 {
     match invariant {
@@ -135,13 +136,13 @@ fn add_invariant(
     }
 }
 
-/// What stands before the statements: the assert of the `pre`, if there is one, and the declared variables.
+/// What comes before the statements: the assert of the `pre`, if there is one, and the declared variables.
 fn start_of(
     alloc: Global,
     pre: Option<&Condition>,
     declared: Items<Stmt>,
     budget: &mut Budget,
-) -> Result<Items<Stmt>, NoMemory>
+) -> Result<Items<Stmt>, Failure>
     ensures { IfOk result (λ start. start ≡ pre_asserted (option_copied pre.entry) ++ declared) }
 {
     match pre {
@@ -155,7 +156,7 @@ fn start_of(
     }
 }
 
-/// The statements behind this start, which check what is kept.
+/// The statements after this start, which check what is kept.
 fn checked_body(
     alloc: Global,
     start: Items<Stmt>,
@@ -163,7 +164,7 @@ fn checked_body(
     body: &[Stmt],
     kept: &ExitConditions<'_>,
     budget: &mut Budget,
-) -> Result<Items<Stmt>, NoMemory>
+) -> Result<Items<Stmt>, Failure>
     ensures { IfOk result (λ list.
         list ≡ start ++ map (leaving_by kept.now) body.now ++ end_checks feature.now kept.now.conditions.now) }
 {
@@ -173,15 +174,14 @@ fn checked_body(
     Ok(list)
 }
 
-/// Puts the asserts of the conditions at the end of the list, if the feature is one that may come to its end: a routine without a
-/// result.
+/// Appends the asserts of the conditions to the list, if execution may reach the end of the feature: it is a routine without a result.
 fn add_end_checks(
     alloc: Global,
     feature: &Feature,
     conditions: &[Condition],
     list: &mut Items<Stmt>,
     budget: &mut Budget,
-) -> Result<(), NoMemory>
+) -> Result<(), Failure>
     ensures { OnOk result (list.new ≡ list.old ++ end_checks feature.now conditions.now) }
 {
     if ends_without_value(feature) {
@@ -190,7 +190,7 @@ fn add_end_checks(
     Ok(())
 }
 
-/// Whether the feature is a routine without a result, which may come to its end.
+/// Whether the feature is a routine without a result, so that execution may reach its end.
 fn ends_without_value(feature: &Feature) -> bool
     ensures { result ≡ ends_without_value feature.now }
 {
@@ -202,7 +202,7 @@ fn checks_of(
     alloc: Global,
     contract: &FeatureContract<'_>,
     declared: &[Stmt],
-) -> Result<BodyChecks, NoMemory>
+) -> Result<BodyChecks, Failure>
     ensures conditions { IfOk result (λ checks. checks.conditions ≡ positions_of (plain_duties contract.now)) }
     ensures initials { IfOk result (λ checks. checks.initials ≡ flat_map declared_at declared.now) }
 {
@@ -215,7 +215,7 @@ fn checks_of(
 }
 
 /// The positions of the conditions that are woven into the body: of the `pre`, the `post` and the invariant.
-fn positions_of(alloc: Global, contract: &FeatureContract<'_>) -> Result<Items<Pos>, NoMemory>
+fn positions_of(alloc: Global, contract: &FeatureContract<'_>) -> Result<Items<Pos>, Failure>
     ensures { IfOk result (λ positions. positions ≡ positions_of (plain_duties contract.now)) }
 {
     let mut positions = Items::new(alloc);
@@ -225,8 +225,8 @@ fn positions_of(alloc: Global, contract: &FeatureContract<'_>) -> Result<Items<P
     Ok(positions)
 }
 
-/// Puts the position of the condition, if there is one, at the end of the list.
-fn add_position(condition: Option<&Condition>, positions: &mut Items<Pos>) -> Result<(), NoMemory>
+/// Appends the position of the condition, if there is one, to the list.
+fn add_position(condition: Option<&Condition>, positions: &mut Items<Pos>) -> Result<(), Failure>
     ensures { OnOk result (positions.new ≡ positions.old ++ position_of (option_copied condition.entry)) }
 {
     match condition {
@@ -240,7 +240,7 @@ fn add_position(condition: Option<&Condition>, positions: &mut Items<Pos>) -> Re
 
 /// The positions of the names that are declared, in order: those of the words `initial`.
 #[tactic(auto, using(crate::proofs::DeclaredAt::all))]
-fn words(alloc: Global, declared: &[Stmt]) -> Result<Items<Pos>, NoMemory>
+fn words(alloc: Global, declared: &[Stmt]) -> Result<Items<Pos>, Failure>
     ensures { IfOk result (λ words. words ≡ flat_map declared_at declared.now) }
 {
     let mut words = Items::new(alloc);
@@ -250,9 +250,9 @@ fn words(alloc: Global, declared: &[Stmt]) -> Result<Items<Pos>, NoMemory>
     Ok(words)
 }
 
-/// Puts the positions of the names that the statement declares at the end of the list.
+/// Appends the positions of the names that the statement declares to the list.
 #[tactic(auto, using(crate::proofs::DeclaredAt::one))]
-fn add_words(s: &Stmt, words: &mut Items<Pos>) -> Result<(), NoMemory>
+fn add_words(s: &Stmt, words: &mut Items<Pos>) -> Result<(), Failure>
     ensures { OnOk result (words.new ≡ words.old ++ declared_at s.now) }
 {
     match s {
@@ -261,9 +261,9 @@ fn add_words(s: &Stmt, words: &mut Items<Pos>) -> Result<(), NoMemory>
     }
 }
 
-/// Puts the positions of the names at the end of the list.
+/// Appends the positions of the names to the list.
 #[tactic(auto, using(crate::proofs::DeclaredAt::names))]
-fn add_places(names: &[Local], words: &mut Items<Pos>) -> Result<(), NoMemory>
+fn add_places(names: &[Local], words: &mut Items<Pos>) -> Result<(), Failure>
     ensures { OnOk result (words.new ≡ words.old ++ name_positions names.now) }
 {
     for name in names {

@@ -1,14 +1,15 @@
-//! How much is copied where contracts are woven in. A condition stands once at each place where it is checked, so that what is
-//! woven could else take memory that grows with the square of the source.
+//! How much is copied where contracts are woven in. A condition occurs once at each place where it is checked, so that without a limit,
+//! what is woven could take memory quadratic in the size of the source.
 
-use sa_ast::{ModeTy, Name, NoMemory, Ty};
+use failure::{Failure, limit};
+use sa_ast::{ModeTy, Name, Ty};
 use sqlite_items::Boxed;
 
-/// How many forms are copied at most for the contracts of one program: expressions, types in them, and one more for each 16
-/// bytes of a name or a text. The bodies of the largest source have fewer than half of these.
+/// How many forms are copied at most for the contracts of one program: expressions, types in them, and one more for each 16 bytes of a name
+/// or a text. The bodies of the largest source have fewer than half of these.
 pub const MOST_FORMS: u64 = 8_388_608;
 
-/// What is left of the forms that may be copied.
+/// How many forms may still be copied.
 #[derive(Clone, Copy)]
 pub(crate) struct Budget {
     left: u64,
@@ -20,28 +21,28 @@ impl Budget {
     }
 
     /// Takes so many forms, or answers that there is no memory for so many.
-    fn take(&mut self, forms: u64) -> Result<(), NoMemory> {
+    fn take(&mut self, forms: u64) -> Result<(), Failure> {
         match self.left.checked_sub(forms) {
             Some(left) => {
                 self.left = left;
                 Ok(())
             }
-            None => Err(NoMemory),
+            None => limit(),
         }
     }
 
     /// Takes the form of an expression, without those of its parts.
-    pub(crate) fn take_expr(&mut self) -> Result<(), NoMemory> {
+    pub(crate) fn take_expr(&mut self) -> Result<(), Failure> {
         self.take(1)
     }
 
     /// Takes what a name or a text counts besides the form that it belongs to.
-    pub(crate) fn take_name(&mut self, name: &Name) -> Result<(), NoMemory> {
+    pub(crate) fn take_name(&mut self, name: &Name) -> Result<(), Failure> {
         self.take(forms_of_name(name))
     }
 
     /// Takes the forms of a type.
-    pub(crate) fn take_type(&mut self, ty: &Ty) -> Result<(), NoMemory> {
+    pub(crate) fn take_type(&mut self, ty: &Ty) -> Result<(), Failure> {
         self.take(forms_of_type(ty))
     }
 }

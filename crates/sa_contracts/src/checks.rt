@@ -1,4 +1,4 @@
-//! Where the checks stand in the typed tree of a woven program, and whether they are quiet (else E46).
+//! Where the checks are in the typed AST of a woven program, and whether they are quiet (else E46).
 
 ghost use Rattle.std.specs.Prelude.{◌≡◌, [], ◌∷◌, IfErr, MatchResult, None, OnOk, Some};
 ghost use Rattle.std.specs.List.{list_any};
@@ -10,8 +10,9 @@ ghost use Rattle.sa_contracts.specs.AskedChecks.{asked_by, asked_first, nothing_
 ghost use Rattle.sa_contracts.specs.NotQuiet.{asserted, is_assert, plain_checks};
 
 use crate::quietness::quiet;
+use failure::Failure;
 use indexmap::IndexMap;
-use sa_ast::{FaultKind, NoMemory, Pos, Refusal, Rule};
+use sa_ast::{FaultKind, Pos, Refusal, Rule};
 use sa_typed::{TypedArm, TypedBranch, TypedExpr, TypedFeature, TypedProgram, TypedStmt};
 use sqlite_items::Items;
 use std::alloc::Global;
@@ -21,7 +22,7 @@ use std::alloc::Global;
 pub(crate) struct BodyChecks {
     /// The positions of the conditions that are asserted.
     pub(crate) conditions: Items<Pos>,
-    /// The positions of the words `initial`. The variables behind the arguments have their values, in this order.
+    /// The positions of the words `initial`. The variables after the parameters have their values, in this order.
     pub(crate) initials: Items<Pos>,
 }
 
@@ -42,7 +43,7 @@ impl Checks {
 
     /// Adds those of the feature whose name is at the position, in place of others of this name.
     #[tactic(auto, using(crate::proofs::AskedLists::more))]
-    pub(crate) fn add(&mut self, name: Pos, checks: BodyChecks) -> Result<(), NoMemory>
+    pub(crate) fn add(&mut self, name: Pos, checks: BodyChecks) -> Result<(), Failure>
         ensures { OnOk result
             (asked_by self.new ≡ asked_first (record { name = name; checks = checks } ∷ []) (asked_by self.old)) }
     {
@@ -50,12 +51,12 @@ impl Checks {
         Ok(())
     }
 
-    /// Whether all conditions and `initial`s of a woven program are quiet, in its typed tree.
+    /// Whether all conditions and `initial`s of a woven program are quiet, in its typed AST.
     ///
     /// # Errors
     ///
-    /// E46 at the first that isn't, in the order of the features and of their statements: at the first token of a condition, and
-    /// at the word `initial`.
+    /// E46 at the first that isn't, in the order of the features and of their statements: at the first token of a condition, and at the
+    /// word `initial`.
     #[tactic(auto, using(crate::proofs::FirstAt::features))]
     pub fn check_quiet(&self, core: &TypedProgram) -> Result<(), Refusal>
         ensures rule { IfErr result (λ refusal. refusal.rule ≡ ConditionNotQuiet) }
@@ -84,7 +85,7 @@ impl Checks {
     }
 }
 
-/// The checks of a feature with so many arguments.
+/// The checks of a feature with this many parameters.
 #[derive(Clone, Copy)]
 struct InFeature<'a> {
     conditions: &'a [Pos],
@@ -104,7 +105,7 @@ impl InFeature<'_> {
         self.initials.get(variable - self.arguments).copied()
     }
 
-    /// The position of the condition that is asserted, where this is what is done if it is false.
+    /// The position of the condition that is asserted, where this is what is executed if it is false.
     #[tactic(auto, using(crate::proofs::FirstAt::soles))]
     fn condition_of(&self, other: &[TypedStmt]) -> Option<Pos>
         ensures { result ≡ condition_of (plain_checks self.now) (block_of other.now) }
@@ -146,7 +147,7 @@ impl InFeature<'_> {
         None
     }
 
-    /// Whether the condition of a contract stands at the position.
+    /// Whether there is a condition of a contract at the position.
     fn has_condition(&self, pos: Pos) -> bool
         ensures { result ≡ list_any (same_pos pos) self.now.conditions.now }
     {
@@ -215,7 +216,7 @@ fn first_in(woven: &InFeature<'_>, s: &TypedStmt) -> Option<Pos>
     }
 }
 
-/// The same in the statements behind tests.
+/// The same in the statements of tests.
 #[tactic(auto, using(crate::proofs::FirstAt::firsts))]
 #[cycle(statement)]
 fn first_in_tests(woven: &InFeature<'_>, tests: &[TypedBranch]) -> Option<Pos>

@@ -7,8 +7,9 @@ ghost use Rattle.sa_contracts.specs.ContractTables.{HasContracts, HasOneMore, cl
 ghost use Rattle.sa_contracts.specs.ContractTables.{same_key};
 ghost use Rattle.sa_contracts.specs.WovenClasses.{has_duties, is_iter_name, keeps_invariant};
 
+use failure::{Failure, Invariant};
 use indexmap::IndexMap;
-use sa_ast::{Access, Condition, Contract, Feature, Name, NoMemory};
+use sa_ast::{Access, Condition, Contract, Feature, Name};
 use std::alloc::Global;
 
 /// A feature by the number of its class among the program's, and its own number among those that the class writes.
@@ -43,7 +44,7 @@ impl<'a> FeatureContract<'a> {
     }
 }
 
-/// The contracts of a program. Of two of one place the later counts.
+/// The contracts of a program. Of two for one class or feature, the later counts.
 #[derive(Drop)]
 pub(crate) struct ContractTable<'a> {
     clauses: IndexMap<FeatureKey, Clauses<'a>>,
@@ -56,7 +57,7 @@ impl<'a> ContractTable<'a> {
     pub(crate) fn new(
         alloc: Global,
         contracts: &'a [Contract],
-    ) -> Result<ContractTable<'a>, NoMemory>
+    ) -> Result<ContractTable<'a>, Failure>
         ensures { IfOk result (λ table. HasContracts table contracts.now) }
     {
         let mut table = ContractTable {
@@ -70,7 +71,7 @@ impl<'a> ContractTable<'a> {
     }
 
     #[tactic(auto, using(crate::proofs::Tables::tables))]
-    fn add(&mut self, contract: &'a Contract) -> Result<(), NoMemory>
+    fn add(&mut self, contract: &'a Contract) -> Result<(), Failure>
         ensures { OnOk result (HasOneMore self.old self.new contract.now) }
     {
         match contract {
@@ -98,7 +99,7 @@ impl<'a> ContractTable<'a> {
         }
     }
 
-    fn add_clauses(&mut self, place: FeatureKey, clauses: Clauses<'a>) -> Result<(), NoMemory>
+    fn add_clauses(&mut self, place: FeatureKey, clauses: Clauses<'a>) -> Result<(), Failure>
         ensures added { OnOk result (Updates same_key self.old.clauses self.new.clauses place (Some clauses.entry)) }
         ensures kept { self.new.invariants ≡ self.old.invariants }
     {
@@ -106,7 +107,7 @@ impl<'a> ContractTable<'a> {
         Ok(())
     }
 
-    fn add_invariant(&mut self, class: usize, holds: &'a Condition) -> Result<(), NoMemory>
+    fn add_invariant(&mut self, class: usize, holds: &'a Condition) -> Result<(), Failure>
         ensures added { OnOk result (Updates nat_eq self.old.invariants self.new.invariants class (Some holds.entry)) }
         ensures kept { self.new.clauses ≡ self.old.clauses }
     {
@@ -114,7 +115,7 @@ impl<'a> ContractTable<'a> {
         Ok(())
     }
 
-    /// What the routine or the iter at a place has to keep.
+    /// What a routine or an iter has to keep.
     pub(crate) fn of(&self, place: FeatureKey, feature: &Feature) -> FeatureContract<'a>
         ensures { plain_duties result ≡ duties_in self.now place.class place.feature feature.now }
     {
@@ -127,7 +128,7 @@ impl<'a> ContractTable<'a> {
         }
     }
 
-    /// The clauses of the feature at a place.
+    /// The clauses of a feature.
     fn clauses_at(&self, place: FeatureKey) -> Clauses<'a>
         ensures { (option_copied result.pre, option_copied result.post) ≡ clauses_in self.now place.class place.feature }
     {

@@ -1,16 +1,17 @@
-//! Expressions once more, as far as the budget allows.
+//! Copies of expressions, as far as the budget allows.
 
 ghost use Rattle.std.specs.Prelude.{◌≡◌, IfOk};
 ghost use Rattle.sa_ast.specs.declared.expr.Expr.TheVariants as expr;
 
 use crate::budget::Budget;
-use sa_ast::{Expr, ExprArg, ExprReceiver, Name, NoMemory, Operator, Pos, Ty};
+use failure::Failure;
+use sa_ast::{Expr, ExprArg, ExprReceiver, Name, Operator, Pos, Ty};
 use sqlite_items::{Boxed, Items};
 use std::alloc::Global;
 
 /// The same expression once more. It fails where memory runs out, or the budget.
 #[cycle(copying)]
-pub(crate) fn copy_expr(alloc: Global, e: &Expr, budget: &mut Budget) -> Result<Expr, NoMemory>
+pub(crate) fn copy_expr(alloc: Global, e: &Expr, budget: &mut Budget) -> Result<Expr, Failure>
     ensures { IfOk result (λ copy. copy ≡ e.now) }
 {
     budget.take_expr()?;
@@ -53,14 +54,14 @@ fn copy_create(
     ty: &Option<Ty>,
     pos: Pos,
     budget: &mut Budget,
-) -> Result<Expr, NoMemory>
+) -> Result<Expr, Failure>
     ensures { IfOk result (λ copy. copy ≡ expr.Create ty.now args.now pos) }
 {
     let args = copy_args(alloc, args, budget)?;
     Ok(Expr::Create(copy_optional_type(alloc, ty, budget)?, args, pos))
 }
 
-/// The call with these arguments, of which the receiver is done.
+/// The call with these arguments, whose receiver is done.
 #[cycle(copying)]
 fn copy_call(
     alloc: Global,
@@ -69,14 +70,14 @@ fn copy_call(
     name: &Name,
     pos: Pos,
     budget: &mut Budget,
-) -> Result<Expr, NoMemory>
+) -> Result<Expr, Failure>
     ensures { IfOk result (λ copy. copy ≡ expr.Call on name.now args.now pos) }
 {
     let args = copy_args(alloc, args, budget)?;
     Ok(Expr::Call(on, copy_name(alloc, name, budget)?, args, pos))
 }
 
-/// The operation with this right side, of which the left side is done.
+/// The operation with this right operand, whose left operand is done.
 #[cycle(copying)]
 fn copy_binary(
     alloc: Global,
@@ -85,13 +86,13 @@ fn copy_binary(
     left: Boxed<Expr>,
     pos: Pos,
     budget: &mut Budget,
-) -> Result<Expr, NoMemory>
+) -> Result<Expr, Failure>
     ensures { IfOk result (λ copy. copy ≡ expr.Binary op left right.now pos) }
 {
     Ok(Expr::Binary(op, left, copy_boxed(alloc, right, budget)?, pos))
 }
 
-/// The element at these indices, of which what has the elements is done.
+/// The element at these indices, where the expression that has the elements is done.
 #[cycle(copying)]
 fn copy_index(
     alloc: Global,
@@ -99,14 +100,14 @@ fn copy_index(
     of: Option<Boxed<Expr>>,
     pos: Pos,
     budget: &mut Budget,
-) -> Result<Expr, NoMemory>
+) -> Result<Expr, Failure>
     ensures { IfOk result (λ copy. copy ≡ expr.Index of at.now pos) }
 {
     Ok(Expr::Index(of, copy_exprs(alloc, at, budget)?, pos))
 }
 
 #[cycle(copying)]
-fn copy_boxed(alloc: Global, e: &Boxed<Expr>, budget: &mut Budget) -> Result<Boxed<Expr>, NoMemory>
+fn copy_boxed(alloc: Global, e: &Boxed<Expr>, budget: &mut Budget) -> Result<Boxed<Expr>, Failure>
     ensures { IfOk result (λ copy. copy ≡ e.now) }
 {
     let copy = copy_expr(alloc, e.get(), budget)?;
@@ -118,7 +119,7 @@ fn copy_optional_boxed(
     alloc: Global,
     e: &Option<Boxed<Expr>>,
     budget: &mut Budget,
-) -> Result<Option<Boxed<Expr>>, NoMemory>
+) -> Result<Option<Boxed<Expr>>, Failure>
     ensures { IfOk result (λ copy. copy ≡ e.now) }
 {
     match e {
@@ -132,7 +133,7 @@ pub(crate) fn copy_exprs(
     alloc: Global,
     list: &[Expr],
     budget: &mut Budget,
-) -> Result<Items<Expr>, NoMemory>
+) -> Result<Items<Expr>, Failure>
     ensures { IfOk result (λ copies. copies ≡ list.now) }
 {
     let mut copies = Items::new(alloc);
@@ -147,7 +148,7 @@ fn copy_receiver(
     alloc: Global,
     on: &ExprReceiver,
     budget: &mut Budget,
-) -> Result<ExprReceiver, NoMemory>
+) -> Result<ExprReceiver, Failure>
     ensures { IfOk result (λ copy. copy ≡ on.now) }
 {
     match on {
@@ -162,7 +163,7 @@ fn copy_args(
     alloc: Global,
     args: &[ExprArg],
     budget: &mut Budget,
-) -> Result<Items<ExprArg>, NoMemory>
+) -> Result<Items<ExprArg>, Failure>
     ensures { IfOk result (λ copies. copies ≡ args.now) }
 {
     let mut copies = Items::new(alloc);
@@ -173,7 +174,7 @@ fn copy_args(
 }
 
 #[cycle(copying)]
-fn copy_arg(alloc: Global, arg: &ExprArg, budget: &mut Budget) -> Result<ExprArg, NoMemory>
+fn copy_arg(alloc: Global, arg: &ExprArg, budget: &mut Budget) -> Result<ExprArg, Failure>
     ensures { IfOk result (λ copy. copy ≡ arg.now) }
 {
     match arg {
@@ -190,7 +191,7 @@ pub(crate) fn copy_optional_expr(
     alloc: Global,
     e: &Option<Expr>,
     budget: &mut Budget,
-) -> Result<Option<Expr>, NoMemory>
+) -> Result<Option<Expr>, Failure>
     ensures { IfOk result (λ copy. copy ≡ e.now) }
 {
     match e {
@@ -199,8 +200,8 @@ pub(crate) fn copy_optional_expr(
     }
 }
 
-/// The same of a type.
-pub(crate) fn copy_type(alloc: Global, ty: &Ty, budget: &mut Budget) -> Result<Ty, NoMemory>
+/// A copy of a type.
+pub(crate) fn copy_type(alloc: Global, ty: &Ty, budget: &mut Budget) -> Result<Ty, Failure>
     ensures { IfOk result (λ copy. copy ≡ ty.now) }
 {
     budget.take_type(ty)?;
@@ -212,7 +213,7 @@ pub(crate) fn copy_optional_type(
     alloc: Global,
     ty: &Option<Ty>,
     budget: &mut Budget,
-) -> Result<Option<Ty>, NoMemory>
+) -> Result<Option<Ty>, Failure>
     ensures { IfOk result (λ copy. copy ≡ ty.now) }
 {
     match ty {
@@ -221,8 +222,8 @@ pub(crate) fn copy_optional_type(
     }
 }
 
-/// The same of a name or a text.
-pub(crate) fn copy_name(alloc: Global, name: &Name, budget: &mut Budget) -> Result<Name, NoMemory>
+/// A copy of a name or a text.
+pub(crate) fn copy_name(alloc: Global, name: &Name, budget: &mut Budget) -> Result<Name, Failure>
     ensures { IfOk result (λ copy. copy ≡ name.now) }
 {
     budget.take_name(name)?;

@@ -1,5 +1,4 @@
-//! The `initial`s of a `post`: in place of each stands a variable, which is declared at the start of the body with the value
-//! that is meant.
+//! The `initial`s of a `post`: each is replaced by a variable, which is declared at the start of the body with the value of its argument.
 
 ghost use Rattle.std.specs.Prelude.{◌≡◌, ◌++◌, [], ◌∷◌, IfOk, OnOk, length, nat_eq};
 ghost use Rattle.std.specs.Cmp.Lexicographic.{pointwise};
@@ -12,13 +11,14 @@ ghost use Rattle.sa_contracts.specs.InitialValues.{replaced_arguments, replaced_
 
 use crate::budget::Budget;
 use crate::copy::{copy_expr, copy_name, copy_optional_type, copy_type};
+use failure::Failure;
 use itoa::Buffer;
-use sa_ast::{Expr, ExprArg, ExprReceiver, Local, Name, NoMemory, Operator, Pos, Stmt, Ty};
+use sa_ast::{Expr, ExprArg, ExprReceiver, Local, Name, Operator, Pos, Stmt, Ty};
 use sqlite_items::{Boxed, Items};
 use std::alloc::{AllocError, Global};
 
-/// The test of a condition with a variable in place of each `initial`, whose declarations are put behind those in the list.
-/// The variables are numbered by their places in it.
+/// The test of a condition with a variable in place of each `initial`, whose declarations are appended to those in the list. The variables
+/// are numbered by their indices in it.
 #[tactic(auto, using(crate::proofs::TakenAt::forms))]
 #[cycle(taking)]
 pub(crate) fn take_initials(
@@ -26,7 +26,7 @@ pub(crate) fn take_initials(
     e: &Expr,
     declared: &mut Items<Stmt>,
     budget: &mut Budget,
-) -> Result<Expr, NoMemory>
+) -> Result<Expr, Failure>
     ensures form { IfOk result (λ form. form ≡ replaced e.now declared.old) }
     ensures declarations { OnOk result (declared.new ≡ declared_by e.now declared.old) }
 {
@@ -81,7 +81,7 @@ fn take_in_create(
     pos: Pos,
     declared: &mut Items<Stmt>,
     budget: &mut Budget,
-) -> Result<Expr, NoMemory>
+) -> Result<Expr, Failure>
     ensures form { IfOk result (λ form. form ≡ expr.Create ty.now (replaced_arguments args.now declared.old) pos) }
     ensures declarations { OnOk result (declared.new ≡ declared_by_arguments args.now declared.old) }
 {
@@ -89,7 +89,7 @@ fn take_in_create(
     Ok(Expr::Create(copy_optional_type(alloc, ty, budget)?, args, pos))
 }
 
-/// The call with these arguments, of which the receiver is done.
+/// The call with these arguments, whose receiver is done.
 #[cycle(taking)]
 fn take_in_call(
     alloc: Global,
@@ -99,7 +99,7 @@ fn take_in_call(
     pos: Pos,
     declared: &mut Items<Stmt>,
     budget: &mut Budget,
-) -> Result<Expr, NoMemory>
+) -> Result<Expr, Failure>
     ensures form { IfOk result (λ form. form ≡ call_replaced name.now on (replaced_arguments args.now declared.old) pos
         (length (declared_by_arguments args.now declared.old))) }
     ensures declarations { OnOk result (declared.new ≡ call_declared name.now (replaced_arguments args.now declared.old) pos
@@ -109,7 +109,7 @@ fn take_in_call(
     taken_call(alloc, name, on, args, pos, declared, budget)
 }
 
-/// The operation with this right side, of which the left side is done.
+/// The operation with this right operand, whose left operand is done.
 #[cycle(taking)]
 fn take_in_binary(
     alloc: Global,
@@ -119,7 +119,7 @@ fn take_in_binary(
     pos: Pos,
     declared: &mut Items<Stmt>,
     budget: &mut Budget,
-) -> Result<Expr, NoMemory>
+) -> Result<Expr, Failure>
     ensures form { IfOk result (λ form. form ≡ expr.Binary op left (replaced right.now declared.old) pos) }
     ensures declarations { OnOk result (declared.new ≡ declared_by right.now declared.old) }
 {
@@ -131,7 +131,7 @@ fn take_in_binary(
     ))
 }
 
-/// The element at these indices, of which what has the elements is done.
+/// The element at these indices, where the expression that has the elements is done.
 #[cycle(taking)]
 fn take_in_index(
     alloc: Global,
@@ -140,7 +140,7 @@ fn take_in_index(
     pos: Pos,
     declared: &mut Items<Stmt>,
     budget: &mut Budget,
-) -> Result<Expr, NoMemory>
+) -> Result<Expr, Failure>
     ensures form { IfOk result (λ form. form ≡ expr.Index of (replaced_exprs at.now declared.old) pos) }
     ensures declarations { OnOk result (declared.new ≡ declared_by_exprs at.now declared.old) }
 {
@@ -153,7 +153,7 @@ fn take_in_boxed(
     e: &Boxed<Expr>,
     declared: &mut Items<Stmt>,
     budget: &mut Budget,
-) -> Result<Boxed<Expr>, NoMemory>
+) -> Result<Boxed<Expr>, Failure>
     ensures form { IfOk result (λ form. form ≡ replaced e.now declared.old) }
     ensures declarations { OnOk result (declared.new ≡ declared_by e.now declared.old) }
 {
@@ -168,7 +168,7 @@ fn take_in_optional(
     e: &Option<Boxed<Expr>>,
     declared: &mut Items<Stmt>,
     budget: &mut Budget,
-) -> Result<Option<Boxed<Expr>>, NoMemory>
+) -> Result<Option<Boxed<Expr>>, Failure>
     ensures form { IfOk result (λ form. form ≡ replaced_option e.now declared.old) }
     ensures declarations { OnOk result (declared.new ≡ declared_by_option e.now declared.old) }
 {
@@ -188,7 +188,7 @@ fn take_in_exprs(
     list: &[Expr],
     declared: &mut Items<Stmt>,
     budget: &mut Budget,
-) -> Result<Items<Expr>, NoMemory>
+) -> Result<Items<Expr>, Failure>
     ensures form { IfOk result (λ form. form ≡ replaced_exprs list.now declared.old) }
     ensures declarations { OnOk result (declared.new ≡ declared_by_exprs list.now declared.old) }
 {
@@ -206,7 +206,7 @@ fn take_in_receiver(
     on: &ExprReceiver,
     declared: &mut Items<Stmt>,
     budget: &mut Budget,
-) -> Result<ExprReceiver, NoMemory>
+) -> Result<ExprReceiver, Failure>
     ensures form { IfOk result (λ form. form ≡ replaced_receiver on.now declared.old) }
     ensures declarations { OnOk result (declared.new ≡ declared_by_receiver on.now declared.old) }
 {
@@ -224,7 +224,7 @@ fn take_in_args(
     args: &[ExprArg],
     declared: &mut Items<Stmt>,
     budget: &mut Budget,
-) -> Result<Items<ExprArg>, NoMemory>
+) -> Result<Items<ExprArg>, Failure>
     ensures form { IfOk result (λ form. form ≡ replaced_arguments args.now declared.old) }
     ensures declarations { OnOk result (declared.new ≡ declared_by_arguments args.now declared.old) }
 {
@@ -242,7 +242,7 @@ fn take_in_arg(
     arg: &ExprArg,
     declared: &mut Items<Stmt>,
     budget: &mut Budget,
-) -> Result<ExprArg, NoMemory>
+) -> Result<ExprArg, Failure>
     ensures form { IfOk result (λ form. form ≡ replaced_argument arg.now declared.old) }
     ensures declarations { OnOk result (declared.new ≡ declared_by_argument arg.now declared.old) }
 {
@@ -257,7 +257,7 @@ fn take_in_arg(
     }
 }
 
-/// A call of this name, of which the receiver and the arguments are done: the variable of an `initial`, or the call.
+/// A call of this name, whose receiver and arguments are done: the variable of an `initial`, or the call.
 fn taken_call(
     alloc: Global,
     name: &Name,
@@ -266,7 +266,7 @@ fn taken_call(
     pos: Pos,
     declared: &mut Items<Stmt>,
     budget: &mut Budget,
-) -> Result<Expr, NoMemory>
+) -> Result<Expr, Failure>
     ensures form { IfOk result (λ form. form ≡ call_replaced name.now on args pos (length declared.old)) }
     ensures declarations { OnOk result (declared.new ≡ call_declared name.now args pos declared.old) }
 {
@@ -279,7 +279,7 @@ fn taken_call(
 /// The word.
 const INITIAL: &[u8] = b"initial";
 
-/// Whether a call of this name is an `initial`. No feature has it, since it is a word.
+/// Whether a call of this name is an `initial`. No feature has this name, since it is a word.
 fn is_initial(name: &Name) -> bool
     ensures { result ≡ pointwise nat_eq name.now initial_word }
 {
@@ -292,7 +292,7 @@ fn declare_initial(
     args: Items<ExprArg>,
     pos: Pos,
     declared: &mut Items<Stmt>,
-) -> Result<Expr, NoMemory>
+) -> Result<Expr, Failure>
     ensures form { IfOk result (λ form. form ≡ variable_read (length declared.old) pos) }
     ensures declarations { OnOk result
         (declared.new ≡ declared.old ++ variable_declared (length declared.old) (value_of args) pos ∷ []) }

@@ -1,4 +1,4 @@
-//! Checks from the contracts of a program: what `pre`, `post` and `invariant` say is asserted in the bodies of its features.
+//! Checks from the contracts of a program: what `pre`, `post` and `invariant` say becomes asserts in the bodies of its features.
 #![tactic(auto)]
 
 mod asserts;

@@ -1,4 +1,4 @@
-//! Which typed expressions are quiet: they only read, so that a program with them runs as one without them, but where they stop it.
+//! Which typed expressions are quiet: they only read, so that a program with them runs as one without them, except where they stop it.
 
 ghost use Rattle.std.specs.Prelude.{◌≡◌, ◌&&◌};
 ghost use Rattle.sa_typed.specs.Copy.{arg_of, args_of, expr_of};
@@ -8,8 +8,8 @@ ghost use Rattle.sa_contracts.specs.Quiet.{is_quiet_target, reads_alone};
 use sa_prelude::BuiltinFeature;
 use sa_typed::{Target, TypedArg, TypedCallee, TypedExpr};
 
-/// Whether an expression is quiet: it is made of literals, void values, `self`, variables, reads of attributes and of shareds,
-/// tests for void, `and` and `or`, and calls of built-in features that make and change nothing.
+/// Whether an expression is quiet: it is made of literals, void values, `self`, variables, reads of attributes and of shareds, tests for
+/// void, `and` and `or`, and calls of built-in features that create and change nothing.
 #[tactic(auto, using(crate::proofs::QuietArgs::quiet))]
 #[cycle(quiet)]
 pub fn quiet(e: &TypedExpr) -> bool
@@ -74,7 +74,7 @@ fn is_quiet_arg(arg: &TypedArg) -> bool
     }
 }
 
-/// Whether a call is quiet by what it reaches, which is known.
+/// Whether a call is quiet by its callee, which is statically known.
 fn is_quiet_call(called: TypedCallee) -> bool
     ensures { result ≡ is_quiet_call called }
 {
@@ -84,7 +84,7 @@ fn is_quiet_call(called: TypedCallee) -> bool
     }
 }
 
-/// Whether what is called reads an attribute or a shared, or is a built-in feature that makes and changes nothing.
+/// Whether a target reads an attribute or a shared, or is a built-in feature that creates and changes nothing.
 fn is_quiet_target(target: Target) -> bool
     ensures { result ≡ is_quiet_target target }
 {
@@ -95,7 +95,7 @@ fn is_quiet_target(target: Target) -> bool
     }
 }
 
-/// Whether what is called is a built-in feature that makes and changes nothing.
+/// Whether a target is a built-in feature that creates and changes nothing.
 fn is_quiet_builtin(target: Target) -> bool
     ensures { result ≡ is_quiet_builtin target }
 {
@@ -105,7 +105,7 @@ fn is_quiet_builtin(target: Target) -> bool
     }
 }
 
-/// Whether a built-in feature makes no object, changes nothing, and neither puts nor takes anything.
+/// Whether a built-in feature creates no object, changes nothing, and neither writes output nor reads input.
 fn reads_alone(feature: BuiltinFeature) -> bool
     ensures { result ≡ reads_alone feature }
 {

@@ -8,13 +8,12 @@ ghost use Rattle.sa_contracts.specs.ExitChecks.{leaving_type_arm_by, result_decl
 use crate::asserts::{ExitConditions, add_asserts};
 use crate::budget::Budget;
 use crate::copy::{copy_expr, copy_exprs, copy_optional_expr, copy_optional_type, copy_type};
-use sa_ast::{
-    BranchArm, CaseArm, Expr, ExprReceiver, Local, Name, NoMemory, Pos, Stmt, Ty, TypeArm,
-};
+use failure::Failure;
+use sa_ast::{BranchArm, CaseArm, Expr, ExprReceiver, Local, Name, Pos, Stmt, Ty, TypeArm};
 use sqlite_items::Items;
 use std::alloc::{AllocError, Global};
 
-/// How a feature gives a value to its caller.
+/// How a feature gives a value to its caller: by `return` or by `yield`.
 #[derive(Clone, Copy)]
 enum Giving {
     Return,
@@ -41,7 +40,7 @@ pub(crate) fn check_leaving(
     list: &[Stmt],
     kept: &ExitConditions<'_>,
     budget: &mut Budget,
-) -> Result<Items<Stmt>, NoMemory>
+) -> Result<Items<Stmt>, Failure>
     ensures { IfOk result (λ woven. woven ≡ map (leaving_by kept.now) list.now) }
 {
     let mut woven = Items::new(alloc);
@@ -58,7 +57,7 @@ fn statement(
     s: &Stmt,
     kept: &ExitConditions<'_>,
     budget: &mut Budget,
-) -> Result<Stmt, NoMemory>
+) -> Result<Stmt, Failure>
     ensures { IfOk result (λ woven. woven ≡ leaving_by kept.now s.now) }
 {
     match s {
@@ -113,7 +112,7 @@ fn statement(
     }
 }
 
-/// The `if` with these statements behind `else`, of which the arms are done.
+/// The `if` with these statements after `else`, whose arms are done.
 #[cycle(statement)]
 fn check_if(
     alloc: Global,
@@ -122,13 +121,13 @@ fn check_if(
     pos: Pos,
     kept: &ExitConditions<'_>,
     budget: &mut Budget,
-) -> Result<Stmt, NoMemory>
+) -> Result<Stmt, Failure>
     ensures { IfOk result (λ woven. woven ≡ stmt.If list (map (leaving_by kept.now) rest.now) pos) }
 {
     Ok(Stmt::If(list, check_leaving(alloc, rest, kept, budget)?, pos))
 }
 
-/// The `case` with these statements behind `else`, of which the branches are done.
+/// The `case` with these statements after `else`, whose branches are done.
 #[cycle(statement)]
 fn check_case(
     alloc: Global,
@@ -138,14 +137,14 @@ fn check_case(
     pos: Pos,
     kept: &ExitConditions<'_>,
     budget: &mut Budget,
-) -> Result<Stmt, NoMemory>
+) -> Result<Stmt, Failure>
     ensures { IfOk result (λ woven. woven ≡ stmt.Case tested.now list (Some (map (leaving_by kept.now) rest.now)) pos) }
 {
     let rest = check_leaving(alloc, rest, kept, budget)?;
     case_of(alloc, tested, list, Some(rest), pos, budget)
 }
 
-/// The `typecase` with these statements behind `else`, of which the branches are done.
+/// The `typecase` with these statements after `else`, whose branches are done.
 #[cycle(statement)]
 fn check_typecase(
     alloc: Global,
@@ -155,14 +154,14 @@ fn check_typecase(
     pos: Pos,
     kept: &ExitConditions<'_>,
     budget: &mut Budget,
-) -> Result<Stmt, NoMemory>
+) -> Result<Stmt, Failure>
     ensures { IfOk result (λ woven. woven ≡ stmt.TypeCase tested.now list (Some (map (leaving_by kept.now) rest.now)) pos) }
 {
     let rest = check_leaving(alloc, rest, kept, budget)?;
     typecase_of(alloc, tested, list, Some(rest), pos)
 }
 
-/// The `protect` with these statements behind `else`, of which all else is done.
+/// The `protect` with these statements after `else`, of which all else is done.
 #[cycle(statement)]
 fn check_protect(
     alloc: Global,
@@ -172,7 +171,7 @@ fn check_protect(
     pos: Pos,
     kept: &ExitConditions<'_>,
     budget: &mut Budget,
-) -> Result<Stmt, NoMemory>
+) -> Result<Stmt, Failure>
     ensures { IfOk result (λ woven. woven ≡ stmt.Protect body list (Some (map (leaving_by kept.now) rest.now)) pos) }
 {
     let rest = check_leaving(alloc, rest, kept, budget)?;
@@ -187,7 +186,7 @@ fn arms(
     list: &[BranchArm],
     kept: &ExitConditions<'_>,
     budget: &mut Budget,
-) -> Result<Items<BranchArm>, NoMemory>
+) -> Result<Items<BranchArm>, Failure>
     ensures { IfOk result (λ woven. woven ≡ map (leaving_arm_by kept.now) list.now) }
 {
     let mut woven = Items::new(alloc);
@@ -204,7 +203,7 @@ fn arm(
     of: &BranchArm,
     kept: &ExitConditions<'_>,
     budget: &mut Budget,
-) -> Result<BranchArm, NoMemory>
+) -> Result<BranchArm, Failure>
     ensures { IfOk result (λ woven. woven ≡ leaving_arm_by kept.now of.now) }
 {
     let test = copy_expr(alloc, &of.test, budget)?;
@@ -220,7 +219,7 @@ fn case_arms(
     list: &[CaseArm],
     kept: &ExitConditions<'_>,
     budget: &mut Budget,
-) -> Result<Items<CaseArm>, NoMemory>
+) -> Result<Items<CaseArm>, Failure>
     ensures { IfOk result (λ woven. woven ≡ map (leaving_case_arm_by kept.now) list.now) }
 {
     let mut woven = Items::new(alloc);
@@ -237,7 +236,7 @@ fn case_arm(
     of: &CaseArm,
     kept: &ExitConditions<'_>,
     budget: &mut Budget,
-) -> Result<CaseArm, NoMemory>
+) -> Result<CaseArm, Failure>
     ensures { IfOk result (λ woven. woven ≡ leaving_case_arm_by kept.now of.now) }
 {
     let values = copy_exprs(alloc, of.values.as_slice(), budget)?;
@@ -253,7 +252,7 @@ fn type_arms(
     list: &[TypeArm],
     kept: &ExitConditions<'_>,
     budget: &mut Budget,
-) -> Result<Items<TypeArm>, NoMemory>
+) -> Result<Items<TypeArm>, Failure>
     ensures { IfOk result (λ woven. woven ≡ map (leaving_type_arm_by kept.now) list.now) }
 {
     let mut woven = Items::new(alloc);
@@ -270,7 +269,7 @@ fn type_arm(
     of: &TypeArm,
     kept: &ExitConditions<'_>,
     budget: &mut Budget,
-) -> Result<TypeArm, NoMemory>
+) -> Result<TypeArm, Failure>
     ensures { IfOk result (λ woven. woven ≡ leaving_type_arm_by kept.now of.now) }
 {
     let ty = copy_type(alloc, &of.ty, budget)?;
@@ -278,7 +277,7 @@ fn type_arm(
     Ok(TypeArm { ty, body })
 }
 
-/// What stands for a `return` or a `yield`: itself, where nothing is kept.
+/// What replaces a `return` or a `yield`: itself, where nothing is kept.
 fn checked_giving(
     alloc: Global,
     giving: Giving,
@@ -286,7 +285,7 @@ fn checked_giving(
     pos: Pos,
     kept: &ExitConditions<'_>,
     budget: &mut Budget,
-) -> Result<Stmt, NoMemory>
+) -> Result<Stmt, Failure>
     ensures { IfOk result (λ woven. woven ≡ checked kept.now.conditions.now kept.now.result.now giving value.now pos) }
 {
     if kept.conditions.is_empty() {
@@ -296,7 +295,7 @@ fn checked_giving(
     Ok(always(alloc, list, pos)?)
 }
 
-/// `result`, declared with the value, if there is one, the checks of what is kept, and `result` given back.
+/// `result`, declared with the value, if there is one, the checks of what is kept, and `result` returned or yielded.
 fn checked_list(
     alloc: Global,
     giving: Giving,
@@ -304,7 +303,7 @@ fn checked_list(
     pos: Pos,
     kept: &ExitConditions<'_>,
     budget: &mut Budget,
-) -> Result<Items<Stmt>, NoMemory>
+) -> Result<Items<Stmt>, Failure>
     ensures { IfOk result (λ list. list ≡ checked_list kept.now.conditions.now kept.now.result.now giving value.now pos) }
 {
     match value {
@@ -331,7 +330,7 @@ fn result_declared(
     pos: Pos,
     ty: &Option<Ty>,
     budget: &mut Budget,
-) -> Result<Stmt, NoMemory>
+) -> Result<Stmt, Failure>
     ensures { IfOk result (λ declared. declared ≡ result_declared ty.now value.now pos) }
 {
     let mut names = Items::new(alloc);
@@ -368,7 +367,7 @@ fn always(alloc: Global, body: Items<Stmt>, pos: Pos) -> Result<Stmt, AllocError
     Ok(Stmt::If(list, Items::new(alloc), pos))
 }
 
-/// The `case` of all that is done, with what is tested once more.
+/// The `case` of all that is done, with a copy of the tested expression.
 fn case_of(
     alloc: Global,
     tested: &Expr,
@@ -376,33 +375,33 @@ fn case_of(
     rest: Option<Items<Stmt>>,
     pos: Pos,
     budget: &mut Budget,
-) -> Result<Stmt, NoMemory>
+) -> Result<Stmt, Failure>
     ensures { IfOk result (λ woven. woven ≡ stmt.Case tested.now list rest pos) }
 {
     Ok(Stmt::Case(copy_expr(alloc, tested, budget)?, list, rest, pos))
 }
 
-/// The `typecase` of all that is done, with what is tested once more.
+/// The `typecase` of all that is done, with a copy of the tested variable.
 fn typecase_of(
     alloc: Global,
     tested: &Local,
     list: Items<TypeArm>,
     rest: Option<Items<Stmt>>,
     pos: Pos,
-) -> Result<Stmt, NoMemory>
+) -> Result<Stmt, Failure>
     ensures { IfOk result (λ woven. woven ≡ stmt.TypeCase tested.now list rest pos) }
 {
     Ok(Stmt::TypeCase(copy_local(alloc, tested)?, list, rest, pos))
 }
 
-/// A declaration once more.
+/// A copy of a declaration.
 fn copy_declaration(
     alloc: Global,
     names: &[Local],
     ty: &Option<Ty>,
     value: &Option<Expr>,
     budget: &mut Budget,
-) -> Result<Stmt, NoMemory>
+) -> Result<Stmt, Failure>
     ensures { IfOk result (λ copy. copy ≡ stmt.Declare names.now ty.now value.now) }
 {
     let names = copy_locals(alloc, names)?;
@@ -410,14 +409,14 @@ fn copy_declaration(
     Ok(Stmt::Declare(names, ty, copy_optional_expr(alloc, value, budget)?))
 }
 
-/// An assignment once more.
+/// A copy of an assignment.
 fn copy_assignment(
     alloc: Global,
     to: &Expr,
     value: &Expr,
     pos: Pos,
     budget: &mut Budget,
-) -> Result<Stmt, NoMemory>
+) -> Result<Stmt, Failure>
     ensures { IfOk result (λ copy. copy ≡ stmt.Assign to.now value.now pos) }
 {
     let to = copy_expr(alloc, to, budget)?;

@@ -10,7 +10,8 @@ use crate::body::{WovenBody, weave_body};
 use crate::budget::Budget;
 use crate::checks::Checks;
 use crate::contracts::{ContractTable, FeatureKey};
-use sa_ast::{Class, Contract, Feature, FeatureBody, NoMemory, Shared};
+use failure::Failure;
+use sa_ast::{Class, Contract, Feature, FeatureBody, Shared};
 use sqlite_items::Items;
 use std::alloc::Global;
 
@@ -21,7 +22,7 @@ pub struct WovenProgram {
     pub checks: Checks,
 }
 
-/// What is left of the budget, and the checks that were woven so far.
+/// The rest of the budget, and the checks that were woven so far.
 #[derive(Drop)]
 struct Weaving {
     budget: Budget,
@@ -39,7 +40,7 @@ pub fn weave(
     alloc: Global,
     classes: Items<Class>,
     contracts: &[Contract],
-) -> Result<WovenProgram, NoMemory>
+) -> Result<WovenProgram, Failure>
     ensures classes { IfOk result (λ woven. woven.classes ≡ woven_classes (duties_of contracts.now) 0 classes) }
     ensures checks { IfOk result (λ woven. asked_by woven.checks ≡ asked (woven_checks (duties_of contracts.now) 0 classes)) }
 {
@@ -61,7 +62,7 @@ fn weave_classes(
     table: &ContractTable<'_>,
     classes: Items<Class>,
     weaving: &mut Weaving,
-) -> Result<Items<Class>, NoMemory>
+) -> Result<Items<Class>, Failure>
     ensures classes { IfOk result (λ woven. woven ≡ woven_classes (duties_in table.now) 0 classes) }
     ensures checks { OnOk result (asked_by weaving.new.checks
         ≡ asked_first (woven_checks (duties_in table.now) 0 classes) (asked_by weaving.old.checks)) }
@@ -82,7 +83,7 @@ fn weave_class(
     class: Class,
     number: usize,
     weaving: &mut Weaving,
-) -> Result<Class, NoMemory>
+) -> Result<Class, Failure>
     ensures class { IfOk result (λ woven. woven ≡ woven_class (duties_in table.now) number class) }
     ensures checks { OnOk result (asked_by weaving.new.checks
         ≡ asked_first (features_checks (duties_in table.now) number 0 class.features) (asked_by weaving.old.checks)) }
@@ -99,7 +100,7 @@ fn weave_features(
     features: Items<Feature>,
     class: usize,
     weaving: &mut Weaving,
-) -> Result<Items<Feature>, NoMemory>
+) -> Result<Items<Feature>, Failure>
     ensures features { IfOk result (λ woven. woven ≡ woven_features (duties_in table.now) class 0 features) }
     ensures checks { OnOk result (asked_by weaving.new.checks
         ≡ asked_first (features_checks (duties_in table.now) class 0 features) (asked_by weaving.old.checks)) }
@@ -117,14 +118,14 @@ fn weave_features(
     Ok(Items::from_vec(last_first))
 }
 
-/// The feature at a place.
+/// A feature, woven.
 fn weave_feature(
     alloc: Global,
     table: &ContractTable<'_>,
     feature: Feature,
     place: FeatureKey,
     weaving: &mut Weaving,
-) -> Result<Feature, NoMemory>
+) -> Result<Feature, Failure>
     ensures feature { let duties = duties_in table.now place.class place.feature feature in
         IfOk result (λ woven. woven ≡ woven_feature feature duties) }
     ensures checks { let duties = duties_in table.now place.class place.feature feature in
@@ -134,7 +135,7 @@ fn weave_feature(
     Ok(with_part(feature, part))
 }
 
-/// The feature with this part, if there is one, in place of its own.
+/// The feature with this body, if there is one, in place of its own.
 fn with_part(feature: Feature, part: Option<FeatureBody>) -> Feature
     ensures { result ≡ record feature { part = unwrap_or part feature.part } }
 {
@@ -144,14 +145,14 @@ fn with_part(feature: Feature, part: Option<FeatureBody>) -> Feature
     }
 }
 
-/// The part of the feature at a place with checks in its body, or none where it has nothing to keep.
+/// The body of a feature with checks in it, or `None` where the feature has nothing to keep.
 fn woven_part(
     alloc: Global,
     table: &ContractTable<'_>,
     feature: &Feature,
     place: FeatureKey,
     weaving: &mut Weaving,
-) -> Result<Option<FeatureBody>, NoMemory>
+) -> Result<Option<FeatureBody>, Failure>
     ensures part { let duties = duties_in table.now place.class place.feature feature.now in
         IfOk result (λ part. unwrap_or part feature.now.part ≡ woven_part feature.now duties feature.now.part) }
     ensures checks { let duties = duties_in table.now place.class place.feature feature.now in

@@ -28,7 +28,7 @@ same-status = (refl, refl)
 no-status : Same places (source.Ended (codes "hi") 0) (halted (machine.Ended None))
 no-status = (refl, refl)
 
--- the second of the positions is meant by the number 1
+-- the second of the positions has the index 1
 same-fault : Same places (source.Stopped (codes "hi") 2 there) (halted (machine.Stopped 2 1))
 same-fault = (refl, refl, refl)
 

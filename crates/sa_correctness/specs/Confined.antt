@@ -1,4 +1,4 @@
--- What a host may rely on of a program's module, beside that it can be run: its memory, and what can be reached from outside.
+-- What a host may rely on of a program's module, beside that it can be run: its memory, and what the host can reach.
 use Rattle.std.specs.Prelude.{codes, ◌≡◌, ◌≤◌, ◌*◌, ℕ, List, [], ◌∷◌, Some, None}
 use Rattle.wa_syntax.specs.declared.module.Export.{Export}
 use Rattle.wa_syntax.specs.declared.module.ExportKind.TheVariants.{Func, Memory}
@@ -31,7 +31,7 @@ pub record ExportsMain (m : Module) : Type 0 where
   pub main : IsMain first
   pub memory : IsMemory second
 
--- its memory has this room and never grows, nothing runs before `main`, and nothing but `main` and the memory can be reached
+-- its memory has this room and never grows, nothing runs before `main`, and the host can reach nothing but `main` and the memory
 pub record IsConfined (room : ℕ) (m : Module) : Type 0 where
   pub memory : HasRoom room m
   pub start : m.start ≡ None

@@ -12,7 +12,7 @@ abbrev pub status_of : Option ℕ → ℕ
 status_of None = 0
 status_of (Some value) = value % 2 ^ 8
 
--- The program and its module end alike, where the module names a position by its place in this list, and has put out these bytes.
+-- The program and its module end alike, where the module names a position by its index in this list, and has put out these bytes.
 -- Both end, with the same status; or both stop, by the same fault at the same position; or the input fails both. What they have put
 -- out is the same. A program that is stuck or has spent its turns ends like no module, and a module that traps, goes too deep or still
 -- runs like no program.

@@ -13,7 +13,7 @@ use Rattle.sa_correctness.specs.Bound.{steps_for}
 use Rattle.sa_correctness.specs.Ends.{IsOrderly, Same}
 use Rattle.sa_correctness.specs.Runnable.{IsRunnable}
 
--- `room` are the bytes that the program's objects may take, here and below.
+-- `room` are the bytes that the program's objects may take, here and in what follows.
 
 -- The program never gets stuck.
 abbrev pub NeverStuck : (core : TypedProgram) → (room : ℕ) → Type 0
@@ -24,7 +24,7 @@ module _ (core : TypedProgram) (room : ℕ) (m : Module) where
   abbrev pub steps_within : (turns : ℕ) → ℕ
   steps_within turns = steps_for (program_of core) turns
 
-  -- For every input the module gives the output and the end or fault that the source's meaning gives: where the program is over in
+  -- For every input the module gives the output and the end or fault that the source's semantics gives: where the program is over in
   -- some turns, its module is over within the bound's steps for them.
   abbrev pub PreservesSemantics : Type 0
   PreservesSemantics =
@@ -50,7 +50,7 @@ module _ (core : TypedProgram) (room : ℕ) (m : Module) where
   abbrev pub NeverTraps : Type 0
   NeverTraps = (input : Input) (steps : ℕ) → IsOrderly (machine_run m input steps).halt
 
-  -- The module does what the program means: all of this.
+  -- The module does what the program's semantics says: all of this.
   pub record IsFaithful : Type 0 where
     pub runnable : IsRunnable m
     pub gives : PreservesSemantics
@@ -60,7 +60,7 @@ module _ (core : TypedProgram) (room : ℕ) (m : Module) where
     pub never_stuck : NeverStuck core room
     pub never_traps : NeverTraps
 
--- the bytes spell a module that does what the program means
+-- the bytes spell a module that does what the program's semantics says
 pub record SpellsFaithful (core : TypedProgram) (room : ℕ) (bytes : List ℕ) : Type 0 where
   pub «module» : Module
   pub spelled : SpellsModule bytes «module»

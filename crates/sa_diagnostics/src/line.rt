@@ -1,4 +1,4 @@
-//! The line of a source in which a place is, with the place marked below it.
+//! The line of a source in which a position is, with the position marked below it.
 //!
 //! ```text
 //!   3 |   x:INT := "three";
@@ -11,7 +11,7 @@ use crate::messages::{Span, shown};
 use itoa::Buffer;
 use std::alloc::AllocError;
 
-/// How many bytes of the line are shown on each side of the place.
+/// How many bytes of the line are shown on each side of the position.
 const AROUND: usize = 100;
 
 /// The byte order mark of UTF-8.
@@ -45,7 +45,7 @@ pub fn put_marked(
     Ok(())
 }
 
-/// The bytes of the line that a place is in, without its line feed.
+/// The bytes of the line that a position is in, without its line feed.
 fn line_around(text: &[u8], place: usize) -> Span
     requires { place ≤ length text.now }
 {
@@ -74,7 +74,7 @@ fn without_order_mark(line: Span, text: &[u8]) -> Span {
     }
 }
 
-/// What is shown of a line: what is around the place.
+/// The part of a line that is shown: the bytes around the position.
 fn shown_of(line: Span, place: usize) -> Span {
     Span {
         start: line.start.max(place.saturating_sub(AROUND)),

@@ -1,4 +1,4 @@
-//! Sentences as they are put together: words, names between backquotes, numbers; and the place that they are about.
+//! Messages and how they are put together: sentences of words, names between backquotes, and numbers; and the span that they are about.
 
 use itoa::Buffer;
 use std::alloc::{AllocError, Global};
@@ -6,13 +6,13 @@ use std::alloc::{AllocError, Global};
 /// How many bytes of a name or a literal are shown.
 const LONGEST: usize = 40;
 
-/// The hexadecimal digits by what they are.
+/// The hexadecimal digits by their values.
 const HEX: &[u8] = b"0123456789abcdef";
 
-/// How many hexadecimal digits a number has at most.
+/// The greatest number of hexadecimal digits of a number.
 const DIGITS: u32 = 16;
 
-/// The bytes from one place of a text up to another.
+/// The bytes from one position of a text up to another.
 #[derive(Clone, Copy, Debug, PartialEq, Eq)]
 pub struct Span {
     pub start: usize,
@@ -23,29 +23,29 @@ pub struct Span {
 #[derive(Clone, Copy)]
 pub enum MessagePart<'a> {
     Words(&'a str),
-    /// What the source spells, between backquotes.
+    /// Bytes of the source, between backquotes.
     Code(&'a [u8]),
-    /// What the source spells, as it is.
+    /// Bytes of the source, without backquotes.
     Plain(&'a [u8]),
-    /// The name of a file, whole.
+    /// The name of a file, however long.
     File(&'a [u8]),
     Number(usize),
-    /// A number as `0x`, and its hexadecimal digits.
+    /// A number as `0x` and its hexadecimal digits.
     Hex(usize),
     /// A byte by its two hexadecimal digits.
     Byte(u8),
-    /// So many arguments.
+    /// The number of arguments, with the word for them.
     Arguments(usize),
 }
 
-/// Sentences, each on its line.
+/// Sentences, each on its own line.
 #[derive(Drop)]
 pub struct Sentences {
     pub text: Vec<u8>,
 }
 
 impl Sentences {
-    /// None.
+    /// No sentence.
     pub fn new(alloc: Global) -> Sentences {
         Sentences {
             text: Vec::new(alloc),
@@ -56,7 +56,7 @@ impl Sentences {
     ///
     /// # Errors
     ///
-    /// `AllocError` where memory runs out; a part of the sentence may stand then.
+    /// `AllocError` where memory runs out; a part of the sentence may be there then.
     pub fn say(&mut self, parts: &[MessagePart<'_>]) -> Result<(), AllocError> {
         for part in parts {
             self.put(*part)?;
@@ -69,7 +69,7 @@ impl Sentences {
     ///
     /// # Errors
     ///
-    /// `AllocError` where memory runs out; a part of the sentence may stand then.
+    /// `AllocError` where memory runs out; a part of the sentence may be there then.
     pub fn say_words(&mut self, words: &str) -> Result<(), AllocError> {
         self.text.extend_from_slice(words.as_bytes())?;
         self.text.push(b'\n')?;
@@ -135,7 +135,7 @@ impl Sentences {
         Ok(())
     }
 
-    /// Adds the front of some bytes, with a blank in place of each byte that moves the cursor.
+    /// Adds the first of some bytes, with a blank in place of each byte that moves the cursor.
     fn put_shown(&mut self, bytes: &[u8]) -> Result<(), AllocError> {
         for byte in bytes.iter().take(LONGEST) {
             self.text.push(shown(*byte))?;
@@ -155,7 +155,7 @@ impl Sentences {
     }
 }
 
-/// What is said of a place.
+/// The message on a position.
 #[derive(Drop)]
 pub struct Message {
     pub sentences: Sentences,
@@ -163,7 +163,7 @@ pub struct Message {
 }
 
 impl Message {
-    /// Nothing, about what stands there.
+    /// A message without sentences, on these bytes of the source.
     pub fn new(alloc: Global, mark: Span) -> Message {
         Message {
             sentences: Sentences::new(alloc),
@@ -171,7 +171,7 @@ impl Message {
         }
     }
 
-    /// Whether nothing has been said.
+    /// Whether the message has no sentence.
     pub fn is_silent(&self) -> bool {
         self.sentences.text.is_empty()
     }
@@ -180,7 +180,7 @@ impl Message {
     ///
     /// # Errors
     ///
-    /// `AllocError` where memory runs out; a part of the sentence may stand then.
+    /// `AllocError` where memory runs out; a part of the sentence may be there then.
     pub fn say(&mut self, parts: &[MessagePart<'_>]) -> Result<(), AllocError> {
         self.sentences.say(parts)
     }
@@ -189,7 +189,7 @@ impl Message {
     ///
     /// # Errors
     ///
-    /// `AllocError` where memory runs out; a part of the sentence may stand then.
+    /// `AllocError` where memory runs out; a part of the sentence may be there then.
     pub fn say_words(&mut self, words: &str) -> Result<(), AllocError> {
         self.sentences.say_words(words)
     }

@@ -6,23 +6,23 @@ use sa_lexer::{Sign, TokenKind};
 use std::alloc::{AllocError, Global};
 use strsim::generic_damerau_levenshtein;
 
-/// How many letters may differ, where two neighbours that are swapped are one.
+/// The greatest number of letters that may differ. Two neighbours that are swapped count as one.
 const MOST_EDITS: usize = 2;
 
-/// How long names are at most that are compared, since that takes the product of their lengths.
+/// The greatest length of names that are compared, since a comparison takes the product of their lengths.
 const LONGEST: usize = 64;
 
-/// The names that have been looked at, and the nearest one of them.
+/// A search for the nearest name: the names that were looked at, and the nearest of them.
 #[derive(Clone, Copy)]
 struct Nearest<'a> {
     to: &'a [u8],
-    /// How many letters may differ.
+    /// How many letters may still differ.
     limit: usize,
     pub found: Option<&'a [u8]>,
 }
 
 impl<'a> Nearest<'a> {
-    /// None has been looked at. Of a short name fewer letters may differ.
+    /// Before the first name. In a short name fewer letters may differ.
     fn new(to: &'a [u8]) -> Nearest<'a> {
         Nearest {
             to,
@@ -35,7 +35,7 @@ impl<'a> Nearest<'a> {
         }
     }
 
-    /// Looks at a name. Of names that are equally near the first one stays.
+    /// Looks at a name. Of names that are equally near the first one wins.
     fn look_at(&mut self, alloc: Global, name: &'a [u8]) -> Result<(), AllocError> {
         if self.limit == 0 || name.len().abs_diff(self.to.len()) > self.limit || name == self.to {
             return Ok(());
@@ -49,7 +49,7 @@ impl<'a> Nearest<'a> {
     }
 }
 
-/// The name of a variable of this file, or of a feature of the program, that is nearly the one at the place.
+/// The name of a variable of this file, or of a feature of the program, that is nearly the given one, or none.
 ///
 /// # Errors
 ///
@@ -68,7 +68,7 @@ pub fn feature_near<'a>(
     Ok(nearest.found)
 }
 
-/// The name of a class that is nearly this one.
+/// The name of a class that is nearly the given one, or none.
 ///
 /// # Errors
 ///

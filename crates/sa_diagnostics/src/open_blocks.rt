@@ -1,26 +1,26 @@
-//! What is open at a place of a source: classes, bodies, statements and brackets that no `end` and no bracket has closed yet.
+//! What is open at a position of a source: classes, bodies, statements and brackets that no `end` and no bracket has closed yet.
 
 use crate::tokens::{TokenView, is_block, is_closing, is_opening, is_word};
 use sa_lexer::{Sign, Word};
 use std::alloc::{AllocError, Global};
 
-/// Something that is open, by the number of the token that opened it.
+/// A class, body, statement or bracket that is open, by the index of the token that opened it.
 #[derive(Clone, Copy)]
 pub struct OpenBlock {
     pub at: usize,
-    /// Where an `is` opened it, the name of the class or of the feature, and else the token itself.
+    /// The index of the name of the class or of the feature where an `is` opened it, and otherwise that of the token itself.
     pub named: usize,
 }
 
-/// What is open, the outermost first.
+/// What is open, from the outermost to the innermost.
 #[derive(Drop)]
 pub struct OpenBlocks {
     pub list: Vec<OpenBlock>,
-    /// The last name at which a class or a feature may have begun.
+    /// The index of the last name at which a class or a feature may have begun.
     header: usize,
     /// The last `end` that closed a class, and the name of that class.
     pub closed: Option<ClosedBlock>,
-    /// The first `end` that doesn't stand below what it closes.
+    /// The first `end` that isn't indented like what it closes.
     pub crooked: Option<ClosedBlock>,
 }
 
@@ -31,7 +31,7 @@ pub struct ClosedBlock {
     pub open: OpenBlock,
 }
 
-/// What is open before a token.
+/// What is open before the token with an index.
 ///
 /// # Errors
 ///
@@ -54,12 +54,12 @@ pub fn open_blocks_before(
 }
 
 impl OpenBlocks {
-    /// What is open inside everything else.
+    /// The innermost of what is open, or none.
     pub fn innermost(&self) -> Option<OpenBlock> {
         self.list.last().copied()
     }
 
-    /// The body of the feature that a place is in.
+    /// The open body of the feature that a position is in, or none.
     pub fn feature(&self, tokens: TokenView<'_>) -> Option<OpenBlock> {
         let open = self.list.get(1).copied()?;
         if tokens.is_word(open.at, Word::Is) {
@@ -88,7 +88,7 @@ impl OpenBlocks {
         Ok(())
     }
 
-    /// Whether the name of a class or of a feature may stand here.
+    /// Whether the name of a class or of a feature may be here.
     fn begins_header(&self, tokens: TokenView<'_>, at: usize) -> bool {
         match self.list.len() {
             0 => tokens.is_word_back(at, 1, Word::Class),
@@ -119,7 +119,7 @@ impl OpenBlocks {
     }
 }
 
-/// Whether the name of a feature, or an invariant, may stand here inside a class.
+/// Whether the name of a feature, or an invariant, may be here inside a class.
 fn begins_feature(tokens: TokenView<'_>, at: usize) -> bool {
     if tokens.is_word(at, Word::Invariant) {
         return true;
@@ -139,7 +139,7 @@ fn is_crooked(tokens: TokenView<'_>, end: usize, open: OpenBlock) -> bool {
     own.is_all && own.width != other.width && has_line_feed(tokens.src, from, to)
 }
 
-/// The bytes before a place.
+/// The bytes before a position.
 fn front(text: &[u8], place: usize) -> &[u8] {
     if place <= text.len() {
         &text[..place]
@@ -152,15 +152,15 @@ fn has_line_feed(text: &[u8], from: usize, to: usize) -> bool {
     from <= to && to <= text.len() && text[from..to].contains(&b'\n')
 }
 
-/// How far the last line of a text is indented.
+/// The indentation of the last line of a text.
 #[derive(Clone, Copy)]
 struct Indent {
     width: usize,
-    /// Whether nothing else stands in the line.
+    /// Whether nothing else is in the line.
     is_all: bool,
 }
 
-/// The indent of the last line of a text.
+/// The indentation of the last line of a text.
 fn indent_of(text: &[u8]) -> Indent {
     let mut width = 0usize;
     let mut is_all = true;
@@ -182,12 +182,12 @@ fn is_indent(byte: u8) -> bool {
     byte == b' ' || byte == b'\t'
 }
 
-/// Whether a token is the word `if` right behind an `else`.
+/// Whether a token is the word `if` directly after an `else`.
 pub(crate) fn is_else_if(tokens: TokenView<'_>, at: usize) -> bool {
     tokens.is_word(at, Word::If) && tokens.is_word_back(at, 1, Word::Else)
 }
 
-/// The last `if` right behind an `else` between two tokens.
+/// The last `if` directly after an `else` between two tokens, or none.
 pub fn last_else_if(tokens: TokenView<'_>, from: usize, to: usize) -> Option<usize> {
     let mut found = None;
     for at in from..to {

@@ -1,24 +1,24 @@
-//! The classes of a program as they are written, by name and by place.
+//! The classes of a program as they are written, by name and by position.
 
 use sa_ast::{Access, Class, Feature, FeatureBody, Pos, Sources, Ty};
 
-/// What a feature is asked for.
+/// A property of features, by which they are looked for.
 #[derive(Clone, Copy)]
 pub enum Quality {
     Any,
-    /// It gives a result, and can't be written.
+    /// It has a result, and can't be written.
     Gives,
-    /// It gives none.
+    /// It has no result.
     GivesNone,
-    /// It takes so many arguments, as it is read or as it is written.
+    /// It takes this number of arguments, as it is read or as it is written.
     Takes(usize),
-    /// Others read it, and its class alone writes it.
+    /// Other classes read it, and only its own writes it.
     ReadOnly,
-    /// Its class alone sees it.
+    /// Only its own class sees it.
     Private,
 }
 
-/// The classes of a program, the prelude's first, and its texts. Where the texts have no grammar there are no classes.
+/// The classes of a program, those of the prelude first, and its texts. Where the texts don't parse there are no classes.
 #[derive(Clone, Copy)]
 pub struct Declarations<'a> {
     pub classes: &'a [Class],
@@ -26,14 +26,14 @@ pub struct Declarations<'a> {
 }
 
 impl<'a> Declarations<'a> {
-    /// The first class of a name.
+    /// The first class with a name, or none.
     pub fn class(self, name: &[u8]) -> Option<&'a Class> {
         self.classes
             .iter()
             .find(|class| class.name.name.as_slice() == name)
     }
 
-    /// The class in whose text a place is.
+    /// The class whose text a position is in, or none.
     pub fn class_at(self, pos: Pos) -> Option<&'a Class> {
         let mut found = None;
         for class in self.classes {
@@ -44,7 +44,7 @@ impl<'a> Declarations<'a> {
         found
     }
 
-    /// The class in whose text a place is, and its feature there.
+    /// The class whose text a position is in, and its feature there, or none.
     pub fn feature_at(self, pos: Pos) -> Option<(&'a Class, &'a Feature)> {
         let class = self.class_at(pos)?;
         let mut found = None;
@@ -56,7 +56,7 @@ impl<'a> Declarations<'a> {
         Some((class, found?))
     }
 
-    /// How many features of this name are of a quality, in all classes.
+    /// How many features with this name and property all classes write.
     pub fn count(self, name: &[u8], quality: Quality) -> usize {
         let mut count = 0usize;
         for class in self.classes {
@@ -65,12 +65,12 @@ impl<'a> Declarations<'a> {
         count
     }
 
-    /// Whether an include of some class gives a feature this name, so that more features have it than are written.
+    /// Whether an include of some class renames a feature to this name, so that more features have it than are written.
     pub fn is_given(self, name: &[u8]) -> bool {
         self.classes.iter().any(|class| gives_name(class, name))
     }
 
-    /// The first class that writes a feature of this name and quality.
+    /// The first class that writes a feature with this name and property, or none.
     pub fn class_with(self, name: &[u8], quality: Quality) -> Option<&'a Class> {
         self.classes
             .iter()
@@ -82,7 +82,7 @@ impl<'a> Declarations<'a> {
         self.file_at(pos.file)
     }
 
-    /// The name of the file with a number, or nothing where there is none.
+    /// The name of the file with an index, or no bytes where there is none.
     pub fn file_at(self, number: u32) -> &'a [u8] {
         match self.sources.names.get(number as usize) {
             Some(name) => name.as_slice(),
@@ -90,7 +90,7 @@ impl<'a> Declarations<'a> {
         }
     }
 
-    /// The number of the line that a position is in.
+    /// The number of the line that a position is in, from 1, or 0 where its file has no text.
     pub fn line(self, pos: Pos) -> usize {
         match self.sources.texts.get(pos.file as usize) {
             Some(text) => line_in(text.as_slice(), pos.at as usize),
@@ -99,7 +99,7 @@ impl<'a> Declarations<'a> {
     }
 }
 
-/// The number of the line, from 1, that a place of a text is in.
+/// The number of the line, from 1, that a position of a text is in.
 pub fn line_in(text: &[u8], place: usize) -> usize {
     text.iter()
         .take(place)
@@ -108,12 +108,12 @@ pub fn line_in(text: &[u8], place: usize) -> usize {
         .saturating_add(1)
 }
 
-/// Whether a position is in the file of another one, and not behind it.
+/// Whether a position is in the same file as another one, and not after it.
 fn is_before(name: Pos, pos: Pos) -> bool {
     name.file == pos.file && name.at <= pos.at
 }
 
-/// How many features of this name and quality a class writes.
+/// How many features with this name and property a class writes.
 pub fn count_in(class: &Class, name: &[u8], quality: Quality) -> usize {
     let mut count = 0usize;
     for feature in class.features.as_slice() {
@@ -124,7 +124,7 @@ pub fn count_in(class: &Class, name: &[u8], quality: Quality) -> usize {
     count
 }
 
-/// Whether an include of a class gives a feature this name.
+/// Whether an include of a class renames a feature to this name.
 fn gives_name(class: &Class, name: &[u8]) -> bool {
     for include in class.includes.as_slice() {
         for change in include.changes.as_slice() {
@@ -138,7 +138,7 @@ fn gives_name(class: &Class, name: &[u8]) -> bool {
     false
 }
 
-/// The first feature of this name that a class writes.
+/// The first feature with this name that a class writes, or none.
 pub fn feature_in<'a>(class: &'a Class, name: &[u8]) -> Option<&'a Feature> {
     class
         .features
@@ -147,7 +147,7 @@ pub fn feature_in<'a>(class: &'a Class, name: &[u8]) -> Option<&'a Feature> {
         .find(|feature| feature.name.name.as_slice() == name)
 }
 
-/// Whether a parameter of a class has this name.
+/// Whether a type parameter of a class has this name.
 pub fn has_parameter(class: &Class, name: &[u8]) -> bool {
     class
         .params
@@ -156,7 +156,7 @@ pub fn has_parameter(class: &Class, name: &[u8]) -> bool {
         .any(|param| param.name.name.as_slice() == name)
 }
 
-/// The name of a type that is a class without parameters.
+/// The name of a type that is a class without type parameters, or none.
 pub fn plain_name(ty: &Ty) -> Option<&[u8]> {
     match ty {
         Ty::Named(name, args, _) if args.is_empty() => Some(name.as_slice()),
@@ -177,7 +177,7 @@ fn is_of(feature: &Feature, quality: Quality) -> bool {
     }
 }
 
-/// Whether a feature has a writer beside what reads it.
+/// Whether a feature has a writer beside its reader.
 fn is_written(feature: &Feature) -> bool {
     matches!(feature.part, FeatureBody::Attr | FeatureBody::Shared(_))
 }

@@ -1,4 +1,4 @@
-//! The tokens of a text by their numbers. Where no token has a number, nothing stands.
+//! The tokens of a text by their indices. An index past the last token is no fault: there is no token then.
 
 use crate::table::line_in;
 use sa_lexer::{Sign, Token, TokenKind, Word};
@@ -11,7 +11,7 @@ pub struct TokenView<'a> {
 }
 
 impl<'a> TokenView<'a> {
-    /// What stands at a place.
+    /// The kind of the token with an index, or none where there is no such token.
     pub fn kind(self, at: usize) -> Option<&'a TokenKind> {
         match self.list.get(at) {
             Some(token) => Some(&token.kind),
@@ -19,47 +19,47 @@ impl<'a> TokenView<'a> {
         }
     }
 
-    /// What stands so many tokens before a place.
+    /// The kind of the token that is `by` tokens before an index.
     pub fn kind_back(self, at: usize, by: usize) -> Option<&'a TokenKind> {
         self.kind(at.checked_sub(by)?)
     }
 
-    /// Whether this sign stands at a place.
+    /// Whether the token with an index is this sign.
     pub fn is_sign(self, at: usize, sign: Sign) -> bool {
         is_sign(self.kind(at), sign)
     }
 
-    /// Whether this word of the language stands at a place.
+    /// Whether the token with an index is this word of the language.
     pub fn is_word(self, at: usize, word: Word) -> bool {
         is_word(self.kind(at), word)
     }
 
-    /// Whether this sign stands so many tokens before a place.
+    /// Whether the token that is `by` tokens before an index is this sign.
     pub fn is_sign_back(self, at: usize, by: usize, sign: Sign) -> bool {
         is_sign(self.kind_back(at, by), sign)
     }
 
-    /// Whether this word stands so many tokens before a place.
+    /// Whether the token that is `by` tokens before an index is this word of the language.
     pub fn is_word_back(self, at: usize, by: usize, word: Word) -> bool {
         is_word(self.kind_back(at, by), word)
     }
 
-    /// Whether a name of a routine or a variable stands at a place.
+    /// Whether the token with an index is a name of a routine or a variable.
     pub fn is_lower(self, at: usize) -> bool {
         matches!(self.kind(at), Some(TokenKind::Lower))
     }
 
-    /// Whether a name of a class that isn't abstract stands at a place.
+    /// Whether the token with an index is a name of a class that isn't abstract.
     pub fn is_class_name(self, at: usize) -> bool {
         matches!(self.kind(at), Some(TokenKind::ClassName))
     }
 
-    /// Whether a name of a routine, a variable or an iter stands at a place.
+    /// Whether the token with an index is a name of a routine, a variable or an iter.
     pub fn is_feature_name(self, at: usize) -> bool {
         matches!(self.kind(at), Some(TokenKind::Lower | TokenKind::IterName))
     }
 
-    /// Where the token begins: behind the text where there is none.
+    /// The position at which the token begins, or the end of the text where there is no such token.
     pub fn start(self, at: usize) -> usize {
         match self.list.get(at) {
             Some(token) => token.start as usize,
@@ -67,7 +67,7 @@ impl<'a> TokenView<'a> {
         }
     }
 
-    /// Where the token ends.
+    /// The position after the token, or the end of the text where there is no such token.
     pub fn end(self, at: usize) -> usize {
         match self.list.get(at) {
             Some(token) => token.end as usize,
@@ -75,7 +75,7 @@ impl<'a> TokenView<'a> {
         }
     }
 
-    /// What the token spells.
+    /// The bytes of the token, none where there is no such token.
     pub fn bytes(self, at: usize) -> &'a [u8] {
         let start = self.start(at);
         let end = self.end(at);
@@ -85,7 +85,7 @@ impl<'a> TokenView<'a> {
         &[]
     }
 
-    /// What the token spells that stands so many tokens before a place.
+    /// The bytes of the token that is `by` tokens before an index.
     pub fn bytes_back(self, at: usize, by: usize) -> &'a [u8] {
         match at.checked_sub(by) {
             Some(at) => self.bytes(at),
@@ -93,29 +93,29 @@ impl<'a> TokenView<'a> {
         }
     }
 
-    /// Whether the token spells this.
+    /// Whether the bytes of the token are this text.
     pub fn spells(self, at: usize, text: &str) -> bool {
         self.bytes(at) == text.as_bytes()
     }
 
-    /// The number of the line, from 1, in which a place of the text is.
+    /// The number of the line, from 1, that a position of the text is in.
     pub fn line_at(self, place: usize) -> usize {
         line_in(self.src, place)
     }
 
-    /// The number of the line in which a token begins.
+    /// The number of the line, from 1, in which the token begins.
     pub fn line(self, at: usize) -> usize {
         self.line_at(self.start(at))
     }
 
-    /// Whether a line ends between the end of a token and the beginning of another one.
+    /// Whether a line ends between the end of one token and the beginning of the other.
     pub fn has_line_feed(self, one: usize, other: usize) -> bool {
         let from = self.end(one);
         let to = self.start(other);
         from <= to && to <= self.src.len() && self.src[from..to].contains(&b'\n')
     }
 
-    /// The number of the first token that doesn't end before a place.
+    /// The index of the first token that ends after a position of the text, or the number of tokens where none does.
     pub fn number_at(self, place: usize) -> usize {
         self.list
             .iter()
@@ -123,7 +123,7 @@ impl<'a> TokenView<'a> {
             .count()
     }
 
-    /// The number of the token behind the bracket that closes the one at a place, or nothing where none does.
+    /// The index of the token after the bracket that closes the one with an index, or none where it isn't closed.
     pub fn after_bracket(self, open: usize) -> Option<usize> {
         let mut depth = 0usize;
         for at in open..self.list.len() {
@@ -139,7 +139,7 @@ impl<'a> TokenView<'a> {
         None
     }
 
-    /// The number of the bracket that the one at a place closes, or nothing where none is open there.
+    /// The index of the bracket that the one with an index closes, or none where none is open there.
     pub fn opening_of(self, close: usize) -> Option<usize> {
         let mut depth = 0usize;
         for back in 0..close {
@@ -165,7 +165,7 @@ pub(crate) fn is_word(kind: Option<&TokenKind>, word: Word) -> bool {
     matches!(kind, Some(TokenKind::Word(there)) if *there == word)
 }
 
-/// `(`, `[` or `{`
+/// Whether the token is `(`, `[` or `{`.
 pub fn is_opening(kind: Option<&TokenKind>) -> bool {
     matches!(
         kind,
@@ -173,7 +173,7 @@ pub fn is_opening(kind: Option<&TokenKind>) -> bool {
     )
 }
 
-/// `)`, `]` or `}`
+/// Whether the token is `)`, `]` or `}`.
 pub fn is_closing(kind: Option<&TokenKind>) -> bool {
     matches!(
         kind,
@@ -181,7 +181,7 @@ pub fn is_closing(kind: Option<&TokenKind>) -> bool {
     )
 }
 
-/// What opens a part of a source that an `end` closes.
+/// Whether the token opens a part of a source that an `end` closes.
 pub fn is_block(kind: Option<&TokenKind>) -> bool {
     matches!(
         kind,
@@ -216,7 +216,7 @@ pub fn ends_value(kind: Option<&TokenKind>) -> bool {
     }
 }
 
-/// Whether a statement may begin with the token, and nothing that goes on with one does.
+/// Whether a statement may begin with the token, and nothing that continues a statement does.
 pub fn begins_statement(kind: Option<&TokenKind>) -> bool {
     match kind {
         Some(TokenKind::Word(word)) => matches!(

@@ -1,4 +1,4 @@
--- Where the implementations of a signature stand in the list of all.
+-- The indices of the implementations of a signature in the list of all.
 use Rattle.std.proofs.Common.{◌≡◌, ℕ, ◌+◌, ◌<◌, ◌≤◌, ◌^◌, List, [], ◌∷◌, ◌++◌, length, take, suc, zero, Some, arith, subst, refl, ap, sym, ◌∙◌, zero-add}
 use Rattle.std.specs.Prelude.{sum_by, slice_get, ◌==◌}
 use Rattle.std.specs.List.{position}
@@ -41,7 +41,7 @@ kept-push xs count new_count s kept rising first counted few room = record {
   few_signatures = rw length_push (omega arith);
 }
 
--- what a look-up by the number of a signature finds, where the rows are those that are shown
+-- what a look-up by the number of a signature finds, where the implementations are those that are shown
 pub found_signature : (xs : List DispatchTable) (count : ℕ) (k : ℕ) (s : DispatchTable) → IsConsistent xs count → Some s ≡ slice_get xs k → IsNumbered 0 xs k s
 found_signature xs count k s kept e = numbered-at 0 xs k s kept.numbered (sym e)
 

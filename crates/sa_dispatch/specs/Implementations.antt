@@ -14,11 +14,11 @@ types_of implementations = map (λ implementation. implementation.ty) implementa
 abbrev pub tables_of : List TypedSignature → List (List ℕ)
 tables_of signatures = map (λ signature. types_of signature.impls) signatures
 
--- the place of a signature's first implementation in the list of the implementations of all signatures
+-- the index of a signature's first implementation in the list of the implementations of all signatures
 abbrev pub first_of : List (List ℕ) → ℕ → ℕ
 first_of rows sig = sum_by length (take sig rows)
 
--- the place, in this list, of a signature's implementation for a type
+-- the index, in this list, of a signature's implementation for a type
 abbrev pub implementation_of : List (List ℕ) → ℕ → ℕ → Option ℕ
 implementation_of rows sig ty =
     option_and_then (λ types. option_map (λ place. first_of rows sig + place) (position (λ t. t == ty) types)) (slice_get rows sig)

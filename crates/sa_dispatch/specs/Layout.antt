@@ -1,4 +1,4 @@
--- How the signatures of a table are kept: each with the number of the implementations before it.
+-- How the signatures of a table are represented: each with the number of the implementations before it.
 use Rattle.std.specs.Prelude.{◌≡◌, ℕ, ◌+◌, ◌<◌, ◌^◌, List, [], ◌∷◌, length, map, sum_by}
 use Rattle.sa_dispatch.specs.declared.signature.DispatchTable.{DispatchTable}
 use Rattle.sa_dispatch.specs.Rising.{IsRising}
@@ -7,7 +7,7 @@ use Rattle.sa_dispatch.specs.Rising.{IsRising}
 abbrev pub implementing_types : List DispatchTable → List (List ℕ)
 implementing_types signatures = map (λ signature. signature.types) signatures
 
--- signatures behind `before` implementations: their types rise, and each knows where its first implementation stands
+-- signatures after `before` implementations: their types rise, and each has the index of its first implementation
 abbrev pub AreNumbered : ℕ → List DispatchTable → Type 0
 AreNumbered before [] = Unit {0}
 AreNumbered before (signature ∷ more) =

@@ -6,7 +6,7 @@ ghost use Rattle.sa_dispatch.specs.Implementations.{tables_of};
 use crate::packing::Packing;
 use crate::search::implemented;
 use crate::table::ImplementationTable;
-use sa_ast::NoMemory;
+use failure::Failure;
 use sa_typed::TypedProgram;
 use std::alloc::Global;
 
@@ -14,12 +14,12 @@ use std::alloc::Global;
 ///
 /// # Errors
 ///
-/// `NoMemory`, also where there are so many that 32 bits don't hold their number or that of the places, or where the types of a
+/// A `Failure`: `Broken` where there are so many that 32 bits don't hold their number or that of the places, or where the types of a
 /// signature don't rise, which the checker sees to.
 pub fn implementation_table(
     alloc: Global,
     core: &TypedProgram,
-) -> Result<ImplementationTable, NoMemory>
+) -> Result<ImplementationTable, Failure>
     ensures { IfOk result (λ rows. rows ≡ tables_of core.now.sigs) }
 {
     let mut rows = ImplementationTable::new(alloc);

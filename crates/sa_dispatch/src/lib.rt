@@ -1,5 +1,5 @@
-//! Which implementation a dispatched call takes, by the signature that it names and the type of its receiver, and where that
-//! implementation stands in the program's table of functions.
+//! Which implementation a dispatched call takes, by the signature that it names and the type of its receiver, and the index of that
+//! implementation in the program's table of functions.
 #![tactic(auto)]
 
 mod build;

@@ -1,15 +1,15 @@
-//! The parts of the table of functions. The part of a signature has one place for each number from its least type to its greatest.
-//! The places of numbers that are no types of it stay free, and a part whose types lie far apart is laid into those of others.
+//! The ranges of the table of functions. The range of a signature has one index for each number from its least type to its greatest. The
+//! indices of numbers that are no types of it stay free, and a range whose types are sparse is laid into those of others.
 
 use crate::signature::{PackedRange, sum};
-use sa_ast::NoMemory;
+use failure::{Failure, Invariant, known};
 use std::alloc::Global;
 
-/// How many types a signature has at most that gets no part where they lie far apart.
+/// How many types a signature has at most that gets no range where they are sparse.
 const FEW: usize = 8;
 
-/// How many places before the end of the table a part is looked for a beginning in. So a search is short, and among parts of so
-/// many types few places stay free.
+/// Among how many indices before the end of the table the beginning of a range is searched for. So a search is short, and among ranges of
+/// so many types few indices stay free.
 const WINDOW: usize = 8_192;
 
 /// The numbers from the least type of a signature to its greatest.
@@ -21,34 +21,37 @@ struct Range {
     is_wide: bool,
 }
 
-/// The table of functions, while signatures get their parts of it.
+/// The table of functions, while signatures get their ranges of it.
 #[derive(Drop)]
 pub(crate) struct Packing {
-    /// For each place whether it is that of a signature's type.
+    /// For each index whether it is that of a signature's type.
     taken: Vec<bool>,
 }
 
 impl Packing {
-    /// A table without places.
+    /// An empty table.
     pub(crate) fn new(alloc: Global) -> Packing {
         Packing {
             taken: Vec::new(alloc),
         }
     }
 
-    /// The part of a signature with these types, which rise: none where there are no types, or few that lie far apart.
+    /// The range of a signature with these types, which rise: none where there are no types, or few that are sparse.
     ///
     /// # Errors
     ///
-    /// `NoMemory`, also where 32 bits don't hold the number of places.
-    pub(crate) fn part(&mut self, types: &[u32]) -> Result<Option<PackedRange>, NoMemory> {
+    /// A `Failure`: `Broken` where 32 bits don't hold the number of places.
+    pub(crate) fn part(&mut self, types: &[u32]) -> Result<Option<PackedRange>, Failure> {
         let Some(range) = range_of(types) else {
             return Ok(None);
         };
         if range.is_wide && types.len() <= FEW {
             return Ok(None);
         }
-        let first = u32::try_from(self.beginning(types, range)).map_err(|_| NoMemory)?;
+        let first = known(
+            u32::try_from(self.beginning(types, range)).ok(),
+            Invariant::TableIndex,
+        )?;
         sum(first, range.length as usize)?;
         self.take(types, range, first as usize)?;
         Ok(Some(PackedRange {
@@ -58,8 +61,8 @@ impl Packing {
         }))
     }
 
-    /// The place at which a part begins: behind all others, or for one whose types lie far apart the first one near the end from
-    /// which on the places of its types are free.
+    /// The index at which a range begins: after all others, or for one whose types are sparse the first one near the end from which on the
+    /// indices of its types are free.
     fn beginning(&self, types: &[u32], range: Range) -> usize {
         let end = self.taken.len();
         if range.is_wide {
@@ -72,7 +75,7 @@ impl Packing {
         end
     }
 
-    /// Whether the places of the types are free in a part that begins at a place.
+    /// Whether the indices of the types are free in a range that begins at an index.
     fn is_free(&self, types: &[u32], range: Range, first: usize) -> bool {
         for ty in types {
             if self.taken.get(place_of(*ty, range, first)) == Some(&true) {
@@ -82,8 +85,8 @@ impl Packing {
         true
     }
 
-    /// Takes the places of the types in a part that begins at a place.
-    fn take(&mut self, types: &[u32], range: Range, first: usize) -> Result<(), NoMemory> {
+    /// Takes the indices of the types in a range that begins at an index.
+    fn take(&mut self, types: &[u32], range: Range, first: usize) -> Result<(), Failure> {
         let missing = first
             .saturating_add(range.length as usize)
             .saturating_sub(self.taken.len());
@@ -111,7 +114,7 @@ fn range_of(types: &[u32]) -> Option<Range> {
     })
 }
 
-/// The place of a type in a part that begins at a place.
+/// The index of a type in a range that begins at an index.
 fn place_of(ty: u32, range: Range, first: usize) -> usize {
     first.saturating_add(ty.saturating_sub(range.least) as usize)
 }

@@ -1,4 +1,4 @@
-//! A signature as calls go through it: the types that implement it, and its part of the table of functions.
+//! A signature as calls go through it: the types that implement it, and its range of the table of functions.
 
 ghost use Rattle.std.specs.Prelude.{◌≡◌, ◌==◌, ◌+◌, ◌<◌, ◌^◌, length, IfOk, OnOk};
 ghost use Rattle.std.specs.List.{position};
@@ -6,18 +6,18 @@ ghost use Rattle.std.specs.Option.{option_map};
 ghost use Rattle.sa_dispatch.specs.Rising.{IsRising};
 
 use crate::search::place_of;
-use sa_ast::NoMemory;
+use failure::{Failure, Invariant, broken, known};
 use sqlite_items::Items;
 
-/// The part of the table of functions that a signature has: one place for each number from its least type to its greatest. Those
-/// of its own types are places of no other signature.
+/// The range of the table of functions that a signature has: one index for each number from its least type to its greatest. Those of its
+/// own types are indices of no other signature.
 #[derive(Clone, Copy, Debug, PartialEq, Eq)]
 pub struct PackedRange {
-    /// The place in the table that the least type has.
+    /// The index in the table that the least type has.
     pub first: u32,
     /// The least type that implements the signature.
     pub least: u32,
-    /// How many places there are.
+    /// How many indices there are.
     pub length: u32,
 }
 
@@ -26,14 +26,14 @@ pub struct PackedRange {
 pub struct DispatchTable {
     /// The types that implement it, rising.
     pub types: Items<u32>,
-    /// The place of its first implementation in the list of all.
+    /// The index of its first implementation in the list of all.
     pub first: u32,
-    /// Its part of the table, where it has one.
+    /// Its range of the table, where it has one.
     pub span: Option<PackedRange>,
 }
 
 impl DispatchTable {
-    /// The place of the implementation for a type in the list of all: none where the type doesn't implement it.
+    /// The index of the implementation for a type in the list of all: none where the type doesn't implement it.
     pub fn implementation(&self, ty: u32) -> Option<u32>
         requires rising { IsRising self.now.types }
         requires fits { self.now.first + length self.now.types < 2 ^ 32 }
@@ -44,7 +44,7 @@ impl DispatchTable {
     }
 }
 
-/// The place behind those of a span.
+/// The index after those of a range.
 pub fn end_of(span: Option<PackedRange>) -> u32 {
     match span {
         Some(span) => span.first.saturating_add(span.length),
@@ -56,13 +56,13 @@ pub fn end_of(span: Option<PackedRange>) -> u32 {
 ///
 /// # Errors
 ///
-/// `NoMemory` where 32 bits don't hold it.
-pub fn sum(number: u32, more: usize) -> Result<u32, NoMemory>
+/// `Broken` where 32 bits don't hold it.
+pub fn sum(number: u32, more: usize) -> Result<u32, Failure>
     ensures sum { IfOk result (λ sum. sum ≡ number + more) }
     ensures fits { OnOk result (number + more < 2 ^ 32) }
 {
     match (number as usize).checked_add(more) {
-        Some(sum) => u32::try_from(sum).map_err(|_| NoMemory),
-        None => Err(NoMemory),
+        Some(sum) => known(u32::try_from(sum).ok(), Invariant::TableIndex),
+        None => broken(Invariant::TableIndex),
     }
 }

@@ -1,4 +1,4 @@
-//! The implementations of a program's signatures, and the places that they have in the table of functions.
+//! The implementations of a program's signatures, and their indices in the table of functions.
 
 ghost use Rattle.std.specs.Prelude.{◌≡◌, [], ◌∷◌, ◌++◌, ◌<◌, length, slice_get, unwrap_or, OnOk};
 ghost use Rattle.std.specs.Option.{SomeIff};
@@ -6,21 +6,20 @@ ghost use Rattle.sa_dispatch.specs.Implementations.{first_of, implementation_of}
 ghost use Rattle.sa_dispatch.specs.Rising.{IsRising};
 
 use crate::signature::{DispatchTable, PackedRange, end_of, sum};
-use sa_ast::NoMemory;
+use failure::Failure;
 use sqlite_items::Items;
 use std::alloc::Global;
 use std::marker::Model;
 
 /// The implementations of a program's signatures. Contracts see, for each signature, the types that implement it.
 ///
-/// A signature has a part of the table of functions, its span, but for one with few types that lie far apart. No call of these
-/// takes memory.
+/// A signature has a range of the table of functions, but for one with few types that are sparse. No call of these allocates memory.
 #[derive(Drop)]
 pub struct ImplementationTable {
     signatures: Items<DispatchTable>,
     /// How many implementations they have together.
     count: u32,
-    /// How many places the table has that their spans are parts of.
+    /// The length of the table that has their ranges.
     size: u32,
 }
 
@@ -47,16 +46,16 @@ impl ImplementationTable {
         }
     }
 
-    /// One more signature, by the types that implement it and its part of the table.
+    /// One more signature, by the types that implement it and its range of the table.
     ///
     /// # Errors
     ///
-    /// `NoMemory`, also where 32 bits don't hold the number of signatures or of implementations.
+    /// A `Failure`: `Broken` where 32 bits don't hold the number of signatures or of implementations.
     pub(crate) fn add(
         &mut self,
         types: Items<u32>,
         span: Option<PackedRange>,
-    ) -> Result<(), NoMemory>
+    ) -> Result<(), Failure>
         requires { IsRising types }
         ensures { OnOk result (self.new ≡ self.old ++ types ∷ []) }
     {
@@ -73,8 +72,8 @@ impl ImplementationTable {
         Ok(())
     }
 
-    /// The place of a signature's implementation for a type in the list of the implementations of all signatures: none where
-    /// there is no such signature or the type doesn't implement it.
+    /// The index of a signature's implementation for a type in the list of the implementations of all signatures: none where there is no
+    /// such signature or the type doesn't implement it.
     pub fn implementation(&self, sig: u32, ty: u32) -> Option<u32>
         ensures { result ≡ implementation_of self.now sig ty }
     {
@@ -82,20 +81,20 @@ impl ImplementationTable {
         signature.implementation(ty)
     }
 
-    /// The place of a signature's implementation for a type in the table of functions: none where the signature has no span,
-    /// or the type doesn't implement it.
+    /// The index of a signature's implementation for a type in the table of functions: none where the signature has no range, or the type
+    /// doesn't implement it.
     pub fn place(&self, sig: u32, ty: u32) -> Option<u32> {
         let span = self.span(sig)?;
         self.implementation(sig, ty)?;
         span.first.checked_add(ty.checked_sub(span.least)?)
     }
 
-    /// How many places the table has that the spans of all signatures are parts of.
+    /// The length of the table that has the ranges of all signatures.
     pub fn size(&self) -> u32 {
         self.size
     }
 
-    /// The part of the table that a signature has, if it has one.
+    /// The range of the table that a signature has, if it has one.
     pub fn span(&self, sig: u32) -> Option<PackedRange> {
         self.signatures.get(sig as usize)?.span
     }
@@ -110,7 +109,7 @@ impl ImplementationTable {
         }
     }
 
-    /// The place of a signature's first implementation in the list of the implementations of all signatures.
+    /// The index of a signature's first implementation in the list of the implementations of all signatures.
     pub fn first(&self, sig: u32) -> Option<u32>
         ensures { SomeIff result (sig < length self.now) (first_of self.now sig) }
     {

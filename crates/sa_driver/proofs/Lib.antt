@@ -1,5 +1,6 @@
 pub mod EndLemmas
 pub mod FurtherLemmas
+pub mod InternalLemmas
 pub mod ListingLemmas
 pub mod ModuleLemmas
 pub mod OutputLemmas

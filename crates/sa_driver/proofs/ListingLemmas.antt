@@ -36,7 +36,7 @@ pub placed_assembly : (store : HostPart Files) (name text bytes : List ℕ) (sou
 placed_assembly store name text bytes sources ends (inl (assembly, written)) = placed_write (Failed store) sources ends written.comes
 placed_assembly store name text bytes sources ends (inr (says, none, kept)) = placed_without_module text sources ends says
 
--- what was assembled, seen from earlier on
+-- what was assembled, counted from an earlier time on
 pub assembled_earlier : (before middle after : Option Files) (a b c : ℕ) (name text bytes : List ℕ) (ends : Cause) → middle ≡ before → a ≤ b → Assembles (part_of middle after b c) name text bytes ends → Assembles (part_of before after a c) name text bytes ends
 assembled_earlier before middle after a b c name text bytes ends same less (inl (assembly, written)) =
     inl (assembly, written_earlier before middle after a b c name bytes bytes ends ends same less refl refl written)
@@ -53,7 +53,7 @@ whole_listed store out file given read bytes ends outcome is of_file same none s
     let listed : ListsModule out bytes.items ends = subst (λ (them : List ℕ). ListsModule out them ends) same lists in
     inr (bytes.items, whole, none, subst (λ (cause : Cause). ListsModule out bytes.items cause) (sym same_ends) listed)
 
--- what was assembled of a text, as an outcome tells of it
+-- what was assembled from a text, as an outcome reports it
 pub text_assembled : (store : HostPart Files) (name text bytes given reported : List ℕ) (ends told_ends : Cause) → IsAssemblyOf text bytes → given ≡ bytes → reported ≡ bytes → told_ends ≡ ends → IsWritten store name given ends → Assembles store name text reported told_ends
 text_assembled store name text bytes given reported ends told_ends assembly same same_told same_ends written =
     rw (same_told, same_ends) (inl (assembly, subst (λ (them : List ℕ). IsWritten store name them ends) same written))

@@ -1,4 +1,4 @@
--- The typed tree that a module is made of, and the positions that it names by number.
+-- The typed AST from which a module is made, and the positions that it names by index.
 use Rattle.std.proofs.Common.{◌≡◌, ◌∙◌, ℕ, ◌+◌, ◌<◌, List, ◌++◌, length, get_or, drop, Result, Ok, Err, IfOk, add-one, drop-cons, append_assoc}
 use Rattle.std.proofs.Math.Seq.{drop-length}
 use Rattle.std.proofs.lemmas.List.{append-nil}
@@ -18,12 +18,12 @@ feature_sites-drop xs i x h e = rw (add-one, drop-cons xs i x, ← e)
 
 pub ruleset sites_from = (feature_sites-drop, drop-length, append_assoc, append-nil)
 
--- what a module was given is what the tree carries
+-- the positions and sites that a module was given are those that the AST carries
 pub numbered : {E : Type 0} (core : TypedProgram) (made : Result BuiltModule E) (positions sites : List Pos) → IfOk made (λ built. built.positions ≡ positions) → IfOk made (λ built. built.sites ≡ sites) → positions ≡ program_positions core → sites ≡ program_sites core → IfOk made (IsNumbered core)
 numbered core (Ok built) positions sites has_positions has_sites same same_sites = record { positions = has_positions ∙ same; sites = has_sites ∙ same_sites }
 numbered core (Err error) positions sites has_positions has_sites same same_sites = tt
 
--- what is made of a program that was checked is made of its typed tree, which never gets stuck
+-- what is made from a program that was checked is made from its typed AST, which never gets stuck
 pub made_of_tree : (core : Result TypedProgram Cause) (made : Result BuiltModule Cause) → IfOk made (λ _. IfOk core IsWellTyped) → IfOk made (λ built. IfOk core (λ tree. IsNumbered tree built)) → IfOk made (λ _. IfErr core (λ _. ⊥)) → IfOk made IsCompiled
 made_of_tree (Ok tree) (Ok built) well numbers is = record {
   core = tree;

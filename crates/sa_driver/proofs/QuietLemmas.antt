@@ -1,4 +1,4 @@
--- Where no check is asked to be quiet, none isn't.
+-- Where no check is required to be quiet, there is none that isn't.
 use Rattle.std.proofs.Common.{◌≡◌, List, [], ◌∷◌, None, refl}
 use Rattle.sa_typed.specs.declared.feature.TypedFeature.{TypedFeature}
 use Rattle.sa_contracts.specs.AskedChecks.{nothing_asked}

@@ -29,17 +29,17 @@ use Rattle.sa_driver.specs.declared.exec.RunEnd.{RunEnd}
 use Rattle.sa_driver.specs.declared.module.BuiltModule.{BuiltModule}
 use Rattle.sa_driver.specs.declared.outcome.Outcome.{Outcome}
 
--- a part of the outside that says what it holds and never fails
+-- a part of the host that says what it holds and never fails
 abbrev pub sure : {T : Type 0} → T → T → HostPart T
 sure old new = record { before = Some old; after = Some new; faults_before = 0; faults_after = 0 }
 
--- the positions of the module are those of this tree, and these are the texts of a report
+-- the positions of the module are those of this AST, and these are the texts of a report
 pub ran_of : (input : HostPart Input) (out : HostPart (List ℕ)) (room fuel : ℕ) (core : TypedProgram) (built : BuiltModule) (sources reported : Sources) (outcome : Outcome) → IsNumbered core built → reported ≡ sources → RanBuilt input out room fuel (IsOfModule built.positions sources) outcome → RanBuilt input out room fuel (IsOfModule (program_positions core) reported) outcome
 ran_of input out room fuel core built sources reported outcome numbered same ran =
     subst (λ (texts : Sources). RanBuilt input out room fuel (IsOfModule (program_positions core) texts) outcome) (sym same)
     (subst (λ (positions : List Pos). RanBuilt input out room fuel (IsOfModule positions sources) outcome) numbered.positions ran)
 
--- what ended so shows of the run
+-- what a run that ended so shows
 shows_of : (IsCause : Cause → Cause → Type 0) (fuel : ℕ) (ended : RunEnd) (run : RunResult) (outcome : Outcome) → ended ≡ ended_of fuel run → IsCause ended.cause outcome.cause → outcome.done ≡ ended.done → ((steps : ℕ) → outcome.steps ≡ Some steps → steps ≡ ended.steps) → Shows fuel IsCause outcome run
 shows_of IsCause fuel ended run outcome is cause done steps = record {
   cause = subst (λ of_module. IsCause of_module outcome.cause) (ap (λ (e : RunEnd). e.cause) is) cause;
@@ -47,7 +47,7 @@ shows_of IsCause fuel ended run outcome is cause done steps = record {
   steps = λ k reported. steps k reported ∙ ap (λ (e : RunEnd). e.steps) is;
 }
 
--- the outcome of what ended so is that of the run
+-- the outcome of a run that ended so is that of the run
 pub shown : (input : HostPart Input) (out : HostPart (List ℕ)) (IsCause : Cause → Cause → Type 0) (bytes : List ℕ) (pages : Option ℕ) (fuel : ℕ) (ended : RunEnd) (run : RunResult) (outcome : Outcome) → ended ≡ ended_of fuel run → IsRunBounded input out pages bytes fuel run → outcome.«module».items ≡ bytes → IsCause ended.cause outcome.cause → outcome.done ≡ ended.done → ((steps : ℕ) → outcome.steps ≡ Some steps → steps ≡ ended.steps) → Ran input out pages fuel IsCause outcome
 shown input out IsCause bytes pages fuel ended run outcome is ran same cause done steps = (
   run,
@@ -79,7 +79,7 @@ run_spelled input out bytes m fuel run spelled valid ran = record {
   ran = run-spelled bytes m fuel run (streams input.before out.before) (streams input.after out.after) spelled ran.ran;
 }
 
--- the outcome of a module that was tried, and ended so, is that of the run
+-- the outcome of a module that was verified, and ended so, is that of the run
 pub shown_built : (input : HostPart Input) (out : HostPart (List ℕ)) (IsCause : Cause → Cause → Type 0) (built : BuiltModule) (fuel : ℕ) (ended : RunEnd) (run : RunResult) (outcome : Outcome) → IsVerified built → ended ≡ ended_of fuel run → IsRunOfModule input out built.«module» fuel run → outcome.«module».items ≡ built.bytes.items → IsCause ended.cause outcome.cause → outcome.done ≡ ended.done → ((steps : ℕ) → outcome.steps ≡ Some steps → steps ≡ ended.steps) → (room : ℕ) → IsConfined room built.«module» → RanBuilt input out room fuel IsCause outcome
 shown_built input out IsCause built fuel ended run outcome tried is ran same cause done steps room confined =
     let spelled : SpellsModule outcome.«module».items built.«module» = rw same tried.spelled in
@@ -94,7 +94,7 @@ shown_built input out IsCause built fuel ended run outcome tried is ran same cau
       shows = shows_of IsCause fuel ended run outcome is cause done steps;
     }
 
--- the outcome of a traced module that was tried is that of its run
+-- the outcome of a traced module that was verified is that of its run
 pub traced : (input : HostPart Input) (out err : HostPart (List ℕ)) (IsCause : Cause → Cause → Type 0) (built : BuiltModule) (sources : Sources) (given sites : List Pos) (fuel : ℕ) (run : RunResult) (framed : List ℕ) (outcome : Outcome) → IsVerified built → IsRunOfModule input (framed_output out framed) built.«module» fuel run → given ≡ sites → AreReported given sources framed (sinks_of out err outcome.listening) run.answer → outcome.sources ≡ sources → outcome.«module».items ≡ built.bytes.items → IsCause (cause_of fuel run.answer) outcome.cause → outcome.done ≡ done_of run.answer → ((steps : ℕ) → outcome.steps ≡ Some steps → steps ≡ run.steps) → (room : ℕ) → IsConfined room built.«module» → RanTraced input out err room fuel IsCause sites outcome
 traced input out err IsCause built sources given sites fuel run framed outcome tried ran same_sites reported same_sources same cause done steps room confined =
     let spelled : SpellsModule outcome.«module».items built.«module» = rw same tried.spelled in
@@ -114,7 +114,7 @@ traced input out err IsCause built sources given sites fuel run framed outcome t
       reported = subst (λ (texts : Sources). AreReported sites texts framed (sinks_of out err outcome.listening) run.answer) (sym same_sources) of_sites;
     }
 
--- the positions and the sites of the module are those of this tree, and these are the texts of a report
+-- the positions and the sites of the module are those of this AST, and these are the texts of a report
 pub traced_of : (input : HostPart Input) (out err : HostPart (List ℕ)) (room fuel : ℕ) (core : TypedProgram) (built : BuiltModule) (sources reported : Sources) (outcome : Outcome) → IsNumbered core built → reported ≡ sources → RanTraced input out err room fuel (IsOfModule built.positions sources) built.sites outcome → RanTraced input out err room fuel (IsOfModule (program_positions core) reported) (program_sites core) outcome
 traced_of input out err room fuel core built sources reported outcome numbered same ran =
     subst (λ (texts : Sources). RanTraced input out err room fuel (IsOfModule (program_positions core) texts) (program_sites core) outcome) (sym same)
@@ -127,7 +127,7 @@ apart IsCause room fuel given left had output outcome empty none ran =
     subst (λ input. RanBuilt (sure input left) (own_sink output) room fuel IsCause outcome) empty
     (subst (λ taken. RanBuilt (sure given left) (sure taken output) room fuel IsCause outcome) none ran)
 
--- where memory runs out before the words are read nothing is done, whatever they are
+-- where memory runs out before the arguments are read nothing is done, whatever they are
 pub idle : (outside : HostState) (line : Option Line) (outcome : Outcome) → DoesNothing outside outcome cause.NoMemory → Obeys outside line outcome
 idle outside None outcome nothing = inr nothing
 idle outside (Some line) outcome nothing = inl nothing

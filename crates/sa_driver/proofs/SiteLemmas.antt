@@ -6,6 +6,7 @@ use Rattle.sa_ast.specs.declared.pos.Pos.{Pos}
 use Rattle.sa_ast.specs.declared.pos.Sources.{Sources}
 use Rattle.sa_driver.specs.Ends.{AreWritten, IsWritten}
 use Rattle.sa_driver.specs.Files.{IsPlaceIn}
+use Rattle.sa_driver.specs.Internal.{IsInternal}
 use Rattle.sa_driver.specs.HostParts.{HostPart}
 use Rattle.sa_driver.specs.Sites.{WritesModule, sites_text}
 use Rattle.sa_driver.specs.declared.cause.Cause.{Cause}
@@ -25,5 +26,5 @@ sites_behind store name given bytes sites file text sources listed positions end
     ))
 
 -- neither, for want of memory
-pub none_written : (store : HostPart Files) (name bytes : List ℕ) (sites : Option (List ℕ)) (file : List ℕ) (sources : Sources) (positions : List Pos) → sites ≡ Some file → store.after ≡ store.before → WritesModule store name bytes sites sources positions cause.NoMemory
-none_written store name bytes sites file sources positions some same = rw some (inl (same, refl))
+pub none_written : (store : HostPart Files) (name bytes : List ℕ) (sites : Option (List ℕ)) (file : List ℕ) (sources : Sources) (positions : List Pos) (ends : Cause) → sites ≡ Some file → store.after ≡ store.before → IsInternal ends → WritesModule store name bytes sites sources positions ends
+none_written store name bytes sites file sources positions ends some same is = rw some (inl (same, is))

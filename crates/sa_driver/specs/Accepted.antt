@@ -1,4 +1,4 @@
--- What a program is checked as, with or without the checks of its contracts, and which of these have to be quiet.
+-- Which classes are checked for a program, with or without the checks of its contracts, and which of these checks have to be quiet.
 use Rattle.std.specs.Prelude.{◌≡◌, List, Option, Some}
 use Rattle.sa_ast.specs.declared.class.Class.{Class}
 use Rattle.sa_ast.specs.declared.contract.Contract.{Contract}

@@ -1,17 +1,17 @@
--- What the outcome of each command says of the outside.
+-- What the outcome of each command says of the host.
 use Rattle.std.specs.Prelude.{codes, ◌≡◌, ◌≢◌, ◌≤◌, ◌^◌, ◌-◌, ◌⊎◌, ◌&&◌, ⊤, ℕ, Bool}
 use Rattle.std.specs.Prelude.{true, false, List, [], length, Option, None, Some, is_some}
 use Rattle.sa_typed.specs.PositionList.{program_positions}
 use Rattle.sa_typed.specs.declared.program.TypedProgram.{TypedProgram}
 use Rattle.sa_gen.specs.Generated.{generated}
-use Rattle.sa_help.specs.Texts.{help_text, version_text}
+use Rattle.sa_cli.specs.Texts.{help_text, version_text}
 use Rattle.host_io.specs.Files.{Files, Lacks}
 use Rattle.host_io.specs.Input.{Input}
 use Rattle.sa_texts.specs.Pages.{error_page, library_file, library_list}
 use Rattle.sa_read.specs.FileContents.{HasFile, HasLonger}
 use Rattle.sa_correctness.specs.Runnable.{SpellsRunnable}
 use Rattle.sa_trace.specs.declared.sinks.ErrStatus.TheVariants as listening
-use Rattle.sa_cli.specs.Line.{Assemble, Build, Check, Exec, Explain, Gen, Help, Library, Line, Listing, Run, Selftest, Version}
+use Rattle.sa_cli.specs.Line.{Assemble, Build, Check, Dump, Exec, Explain, Gen, Help, Library, Line, Listing, Run, Selftest, Version}
 use Rattle.sa_cli.specs.declared.command.Extent.{Extent}
 use Rattle.sa_cli.specs.declared.command.Extent.TheVariants as extent
 use Rattle.sa_cli.specs.declared.command.Trace.TheVariants as tracing
@@ -19,6 +19,7 @@ use Rattle.sa_driver.specs.Built.{IsSafe, program_sites}
 use Rattle.sa_driver.specs.Ends.{IsOfModule, IsPrinted}
 use Rattle.sa_driver.specs.Files.{ComesOfFiles, ComesOfGenerated, IsSpelledGenerated, IsSpelledProgram}
 use Rattle.sa_driver.specs.Further.{MayReportFurther}
+use Rattle.sa_driver.specs.Internal.{IsInternal}
 use Rattle.sa_driver.specs.Lines.{selftest_line}
 use Rattle.sa_driver.specs.Listings.{Assembles, ListsModule}
 use Rattle.sa_driver.specs.Runs.{Ran, RanBuilt, RanTraced}
@@ -28,7 +29,7 @@ use Rattle.sa_driver.specs.declared.cause.Cause.{Cause}
 use Rattle.sa_driver.specs.declared.cause.Cause.TheVariants as cause
 use Rattle.sa_driver.specs.declared.outcome.Outcome.{Outcome}
 
--- there is no module of the outcome
+-- the outcome has no module
 abbrev pub HasNoModule : Outcome → Type 0
 HasNoModule outcome = outcome.«module».items ≡ []
 
@@ -38,18 +39,18 @@ pub record GivesNone (store : HostPart Files) (names : List (List ℕ)) (outcome
   pub bytes : HasNoModule outcome
   pub files : IsUnchanged store
 
--- the module of the program in these files can be run, and was, or there is none; a stop of it is at a position of its typed tree
+-- the module of the program in these files can be run, and was, or there is none; a stop of it is at a position of its typed AST
 abbrev pub IsRun : HostPart Files → HostPart Input → HostPart (List ℕ) → (room fuel : ℕ) → List (List ℕ) → Outcome → Type 0
 IsRun store input out room fuel names outcome =
     (GivesNone store names outcome × IsUnchanged input × IsUnchanged out)
     ⊎ ((core : TypedProgram) × IsSafe core × IsSpelledProgram store.before names outcome.sources
     × RanBuilt input out room fuel (IsOfModule (program_positions core) outcome.sources) outcome)
 
--- err has taken nothing, and takes the lines of the end
+-- err has taken nothing yet, and will take the lines of the end
 abbrev pub IsSilent : (err : HostPart (List ℕ)) → Outcome → Type 0
 IsSilent err outcome = IsUntouched err × (outcome.listening ≡ listening.Yes)
 
--- the traced module of the program in these files can be run, and was, with the sites of its typed tree, or there is none
+-- the traced module of the program in these files can be run, and was, with the sites of its typed AST, or there is none
 abbrev pub IsTraced : HostState → (room fuel : ℕ) → List (List ℕ) → Outcome → Type 0
 IsTraced outside room fuel names outcome =
     (GivesNone outside.store names outcome × IsUnchanged outside.input × IsUnchanged outside.out × IsSilent outside.err outcome)
@@ -57,8 +58,8 @@ IsTraced outside room fuel names outcome =
     × RanTraced outside.input outside.out outside.err room fuel (IsOfModule (program_positions core) outcome.sources)
     (program_sites core) outcome)
 
--- the module of the program in these files can be run, and was written under this name, and then the positions of its typed tree, where
--- they have a file; or there is none, and nothing is written
+-- the module of the program in these files can be run, and was written under this name, and then the positions of its typed AST, where they
+-- have a file; or there is none, and nothing is written
 abbrev pub IsBuilt : HostPart Files → (room : ℕ) → List ℕ → (sites : Option (List ℕ)) → List (List ℕ) → Outcome → Type 0
 IsBuilt store room name sites names outcome =
     GivesNone store names outcome
@@ -66,11 +67,21 @@ IsBuilt store room name sites names outcome =
     × SpellsRunnable room outcome.«module».items
     × WritesModule store name outcome.«module».items sites outcome.sources (program_positions core) outcome.cause)
 
--- out took that the program in these files is accepted, or it isn't, and further refusals are told, if all are asked for
+-- out took that the program in these files is accepted, or it isn't, and further refusals are reported, if all are asked for
 abbrev pub IsChecked : HostPart Files → HostPart (List ℕ) → Extent → List (List ℕ) → Outcome → Type 0
 IsChecked store out extent names outcome =
     (GivesNone store names outcome × IsUnchanged out × MayReportFurther extent outcome)
     ⊎ (IsSpelledProgram store.before names outcome.sources × HasNoModule outcome × IsPrinted out (codes "accepted\n") outcome.cause)
+
+-- a text was put on out, or nothing was, at an internal end
+abbrev pub PrintsForm : HostPart (List ℕ) → Cause → Type 0
+PrintsForm out ends = ((text : List ℕ) × IsPrinted out text ends) ⊎ (IsInternal ends × IsUnchanged out)
+
+-- out took a text for the program in these files, or there is none
+abbrev pub IsDumped : HostPart Files → HostPart (List ℕ) → List (List ℕ) → Outcome → Type 0
+IsDumped store out names outcome =
+    (GivesNone store names outcome × IsUnchanged out)
+    ⊎ (IsSpelledProgram store.before names outcome.sources × HasNoModule outcome × PrintsForm out outcome.cause)
 
 -- how many bytes a module has at most: 64 MiB
 abbrev pub most_module_bytes : ℕ
@@ -129,7 +140,7 @@ IsGenerated out classes outcome = HasNoModule outcome × IsPrinted out (generate
 abbrev pub IsShown : HostPart (List ℕ) → (text : List ℕ) → Outcome → Type 0
 IsShown out text outcome = HasNoModule outcome × IsPrinted out text outcome.cause
 
--- the text that was asked for was printed, or there is none, for which this cause is given, and nothing is printed
+-- the text that was asked for was printed, or there is none, which this cause says, and nothing is printed
 abbrev pub IsFound : HostPart (List ℕ) → (text : Option (List ℕ)) → (lacking : Cause) → Outcome → Type 0
 IsFound out (Some text) lacking outcome = IsShown out text outcome
 IsFound out None lacking outcome = HasNoModule outcome × (outcome.cause ≡ lacking) × IsUnchanged out
@@ -158,8 +169,8 @@ pub record ReportsRun (out : HostPart (List ℕ)) (classes : ℕ) (ran : Outcome
 abbrev pub default_room : ℕ
 default_room = 65536
 
--- the generated program was run with the greatest fuel, apart from the input and out of the call, and reported; a stop of its module is
--- at a position of its typed tree
+-- the generated program was run with the greatest fuel, apart from the input and out of the call, and reported; a stop of its module is at
+-- a position of its typed AST
 pub record IsRunApart (out : HostPart (List ℕ)) (classes : ℕ) (outcome : Outcome) : Type 0 where
   pub taken : IsSpelledGenerated classes outcome.sources
   pub core : TypedProgram
@@ -176,7 +187,7 @@ IsTested out classes outcome =
     (ComesOfGenerated classes outcome.sources outcome.cause × HasNoModule outcome × IsUnchanged out)
     ⊎ IsRunApart out classes outcome
 
--- the command was done, and this came of it
+-- the command was executed, with this outcome
 abbrev pub Does : HostState → Line → Outcome → Type 0
 Does outside (Run fuel room stats contracts tracing.Silent detail names) outcome =
     IsRun outside.store outside.input outside.out room fuel names outcome × IsSilent outside.err outcome
@@ -191,6 +202,8 @@ Does outside (Gen classes) outcome = IsGenerated outside.out classes outcome × 
 Does outside (Selftest classes) outcome = IsTested outside.out classes outcome × IsSilent outside.err outcome
 Does outside (Listing file) outcome = IsListed outside.store outside.out file outcome × IsSilent outside.err outcome
 Does outside (Assemble out file) outcome = IsAssembled outside.store out file outcome × IsSilent outside.err outcome
+Does outside (Dump form contracts all detail names) outcome =
+    IsDumped outside.store outside.out names outcome × IsSilent outside.err outcome
 Does outside (Help topic) outcome = IsShown outside.out (help_text topic) outcome × IsSilent outside.err outcome
 Does outside Version outcome = IsShown outside.out version_text outcome × IsSilent outside.err outcome
 Does outside (Explain word) outcome = IsFound outside.out (error_page word) cause.NoPage outcome × IsSilent outside.err outcome
@@ -205,7 +218,7 @@ pub record DoesNothing (outside : HostState) (outcome : Outcome) (ends : Cause) 
   pub out : IsUnchanged outside.out
   pub err : IsSilent outside.err outcome
 
--- what the words ask for was done: the usage is the answer where they are no command, and only there, unless memory ran out
+-- what the arguments ask for was done: the cause is the usage where they form no command, and only there, unless memory ran out
 abbrev pub Obeys : HostState → Option Line → Outcome → Type 0
 Obeys outside None outcome = DoesNothing outside outcome cause.Usage ⊎ DoesNothing outside outcome cause.NoMemory
 Obeys outside (Some line) outcome = DoesNothing outside outcome cause.NoMemory ⊎ Does outside line outcome
@@ -223,12 +236,12 @@ asks_stats (Some (Run fuel room stats contracts trace detail names)) = stats
 asks_stats (Some (Exec fuel pages stats detail file)) = stats
 asks_stats _ = false
 
--- the command tells one refusal alone
+-- the command reports one refusal alone
 abbrev pub ReportsOne : Option Line → Type 0
 ReportsOne (Some (Check contracts extent.All detail names)) = ⊥
 ReportsOne _ = ⊤
 
--- the steps of a run that ended so may be shown
+-- the steps of a run with this cause may be shown
 abbrev pub has_steps : Cause → Bool
 has_steps cause.Done = true
 has_steps (cause.Fault kind pos) = true

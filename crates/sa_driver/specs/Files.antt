@@ -19,7 +19,7 @@ use Rattle.sa_driver.specs.declared.cause.Cause.TheVariants as cause
 abbrev pub IsSpelledProgram : Option Files → List (List ℕ) → Sources → Type 0
 IsSpelledProgram files names sources = IsReadAs files names sources None × AreSpelled sources.texts
 
--- the place is in one of these texts, or at its end
+-- the position is in one of these texts, or at its end
 pub record IsPlaceIn (texts : List (List ℕ)) (pos : Pos) : Type 0 where
   pub file : pos.file < length texts
   pub within : pos.at ≤ length (slice_index_or texts pos.file [])
@@ -41,7 +41,7 @@ is_of_checker _ = true
 abbrev pub IsByChecker : List (List ℕ) → Refusal → Type 0
 IsByChecker texts refusal = AreSpelled texts × IsTrue (is_of_checker refusal.rule)
 
--- the refusal is that of these texts, at a place in one of them: the first by tokens and grammar, or else the checker's
+-- the refusal is that of these texts, at a position in one of them: the first by tokens and grammar, or else the checker's
 abbrev pub IsRefusalFor : List (List ℕ) → Refusal → Type 0
 IsRefusalFor texts refusal = (IsRefusalOf texts refusal ⊎ IsByChecker texts refusal) × IsPlaceIn texts refusal.pos
 
@@ -54,6 +54,7 @@ IsRefusedFor files names sources refusal =
 abbrev pub Explains : List (List ℕ) → Cause → Type 0
 Explains texts (cause.Refused refusal) = IsRefusalFor texts refusal
 Explains texts cause.NoMemory = ⊤
+Explains texts (cause.Broken invariant) = ⊤
 Explains texts _ = ⊥
 
 -- why a program that was read gives no module: it was cut, or its texts give none
@@ -67,9 +68,10 @@ abbrev pub ComesOfFiles : Option Files → Type 0 → List (List ℕ) → Source
 ComesOfFiles files store_failed names sources (cause.Refused refusal) = IsRefusedFor files names sources refusal
 ComesOfFiles files store_failed names sources cause.StoreFault = store_failed ⊎ LacksOneOf files names
 ComesOfFiles files store_failed names sources cause.NoMemory = ⊤
+ComesOfFiles files store_failed names sources (cause.Broken invariant) = ⊤
 ComesOfFiles files store_failed names sources _ = ⊥
 
--- the texts of the generated program of so many classes
+-- the texts of the generated program of this many classes
 abbrev pub generated_sources : ℕ → Sources
 generated_sources classes = record {
   names = codes "prelude" ∷ codes "generated" ∷ [];
@@ -83,4 +85,5 @@ IsSpelledGenerated classes sources = (sources ≡ generated_sources classes) × 
 -- why the generated program gives no module
 abbrev pub ComesOfGenerated : ℕ → Sources → Cause → Type 0
 ComesOfGenerated classes sources cause.NoMemory = ⊤
+ComesOfGenerated classes sources (cause.Broken invariant) = ⊤
 ComesOfGenerated classes sources ends = (sources ≡ generated_sources classes) × Explains sources.texts ends

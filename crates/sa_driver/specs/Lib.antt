@@ -4,6 +4,7 @@ pub mod Built
 pub mod Ends
 pub mod Files
 pub mod Further
+pub mod Internal
 pub mod Lines
 pub mod Listings
 pub mod Report

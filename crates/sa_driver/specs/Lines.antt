@@ -8,20 +8,22 @@ use Rattle.std.specs.Prelude.{Option, None, Some}
 use Rattle.sa_driver.specs.declared.outcome.Outcome.{Outcome}
 use Rattle.sa_ast.specs.Rules.{rule_text}
 use Rattle.sa_ast.specs.Faults.{fault_text}
+use Rattle.failure.specs.Names.{invariant_name}
+use Rattle.failure.specs.declared.invariant.Invariant.{Invariant}
 use Rattle.sa_driver.specs.declared.cause.Cause.{Cause}
 use Rattle.sa_driver.specs.declared.cause.Cause.TheVariants.{Done, Refused, Fault, Stopped, Spent, StoreFault, InFault, OutFault, Usage}
 use Rattle.sa_driver.specs.declared.cause.Cause.TheVariants.{Malformed, Invalid, Unlinked, Segment, Trap, TooDeep, NotListing}
-use Rattle.sa_driver.specs.declared.cause.Cause.TheVariants.{NoPage, NoLibraryFile, NoMemory}
+use Rattle.sa_driver.specs.declared.cause.Cause.TheVariants.{NoPage, NoLibraryFile, NoMemory, Broken}
 
--- the line of a place, from 1
+-- the line of a position, from 1
 abbrev pub line_number : Sources → Pos → ℕ
 line_number sources pos = 1 + count_by (λ byte. byte == 10) (take pos.at (text_of sources pos.file))
 
--- the name of the text that a place is in, or nothing where it has none
+-- the name of the text that contains a position, or nothing where it has none
 abbrev pub file_name : Sources → Pos → List ℕ
 file_name sources pos = unwrap_or (slice_get sources.names pos.file) []
 
--- `FILE:LINE: TEXT` about a place
+-- `FILE:LINE: TEXT` about a position
 abbrev pub about_place : Sources → Pos → List ℕ → List ℕ
 about_place sources pos text =
     file_name sources pos ++ codes ":" ++ decimal (line_number sources pos) ++ codes ": " ++ text ++ codes "\n"
@@ -35,6 +37,10 @@ stop_line file code site = about_file file (codes "stop " ++ decimal code ++ cod
 
 abbrev pub listing_line : List ℕ → ℕ → List ℕ
 listing_line file line = file ++ codes ":" ++ decimal line ++ codes ": no listing\n"
+
+-- `internal error: NAME; please report this program`
+abbrev pub internal_error : Invariant → List ℕ
+internal_error invariant = codes "internal error: " ++ invariant_name invariant ++ codes "; please report this program\n"
 
 -- the line of a cause, where these are the program's texts, and this is the file of the module or the listing
 abbrev pub line_of_cause : Sources → List ℕ → Cause → List ℕ
@@ -57,6 +63,7 @@ line_of_cause sources file (NotListing line) = listing_line file line
 line_of_cause sources file NoPage = codes "no page: explain takes a code, as E33, or the text of a line, as index or store fault\n"
 line_of_cause sources file NoLibraryFile = codes "no file: lib takes a name that sather lib lists\n"
 line_of_cause sources file NoMemory = codes "out of memory\n"
+line_of_cause sources file (Broken invariant) = internal_error invariant
 
 -- the position is in one of these texts, whose lines can be counted
 abbrev pub IsInText : List (List ℕ) → Pos → Type 0
@@ -81,7 +88,7 @@ abbrev pub shown_statistics : Option ℕ → ℕ → List ℕ
 shown_statistics None bytes = []
 shown_statistics (Some steps) bytes = statistics steps bytes
 
--- the lines of an outcome with this cause, and behind its line those of further refusals
+-- the lines of an outcome with this cause: its line, then those of further refusals and of the statistics
 abbrev pub lines_of : Outcome → Cause → List ℕ
 lines_of outcome cause =
     line_of_cause outcome.sources outcome.file.now cause ++ outcome.further.items

@@ -35,8 +35,8 @@ pub record IsAssemblyOf (text bytes : List ℕ) : Type 0 where
   pub listing : IsListing text «module»
   pub shortest : IsLeast (λ spelling. SpellsModule spelling «module») bytes
 
--- why no module is made of a text: the lines up to one of its own, or up to the one behind its last line feed, begin no
--- listing, so that it is none
+-- why no module is made from a text: the lines up to one of its own, or up to the one after its last line feed, begin no listing, so that
+-- it is none
 abbrev pub EndsWithoutModule : List ℕ → Cause → Type 0
 EndsWithoutModule text (cause.NotListing line) = IsLineOf text line × BeginNone text line
 EndsWithoutModule text cause.NoMemory = ⊤

@@ -39,7 +39,7 @@ pub record IsRunOf (input : HostPart Input) (out : HostPart (List ℕ)) (bytes :
   pub within : run.steps ≤ fuel
   pub ran : HasRun bytes fuel run (streams input.before out.before) (streams input.after out.after)
 
--- it was run so with a memory of at most so many pages
+-- it was run in the same way with a memory of at most this many pages
 pub record IsRunWithin (input : HostPart Input) (out : HostPart (List ℕ)) (pages : ℕ) (bytes : List ℕ) (fuel : ℕ) (run : RunResult) : Type 0 where
   pub says : SaysOfWithin pages bytes run.answer
   pub reported : IsFaultReported run.answer (Failed input) (Failed out)
@@ -51,7 +51,7 @@ abbrev pub IsRunBounded : HostPart Input → HostPart (List ℕ) → (pages : Op
 IsRunBounded input out None bytes fuel run = IsRunOf input out bytes fuel run
 IsRunBounded input out (Some pages) bytes fuel run = IsRunWithin input out pages bytes fuel run
 
--- this valid module was run so with this fuel; where it can be run, it was started
+-- this valid module was run in the same way with this fuel; where it can be run, it was started
 pub record IsRunOfModule (input : HostPart Input) (out : HostPart (List ℕ)) (m : Module) (fuel : ℕ) (run : RunResult) : Type 0 where
   pub says : SaysOfValid m run.answer
   pub reported : IsFaultReported run.answer (Failed input) (Failed out)
@@ -59,7 +59,7 @@ pub record IsRunOfModule (input : HostPart Input) (out : HostPart (List ℕ)) (m
   pub ran : HasRunModule m fuel run (streams input.before out.before) (streams input.after out.after)
   pub starts : IsRunnable m → IsBeforeRun run.answer → ⊥
 
--- the outcome is that of the run: its cause is one by this rule for that of the module, and its status and its steps, where they are
+-- the outcome is that of the run: its cause is related to that of the module by this rule, and its status and its steps, where they are
 -- shown, are the run's
 pub record Shows (fuel : ℕ) (IsCause : (of_module : Cause) → (reported : Cause) → Type 0) (outcome : Outcome) (run : RunResult) : Type 0 where
   pub cause : IsCause (cause_of fuel run.answer) outcome.cause
@@ -90,14 +90,14 @@ abbrev pub framed_output : (out : HostPart (List ℕ)) → (framed : List ℕ) �
 framed_output out framed =
     record { before = Some []; after = Some framed; faults_before = out.faults_before; faults_after = out.faults_after }
 
--- what was left of out and err, and whether err still listens
+-- out and err before and after, and whether err still listens
 abbrev pub sinks_of : (out err : HostPart (List ℕ)) → ErrStatus → Sinks
 sinks_of out err listening =
     sinks (sink out.before out.faults_before) (sink out.after out.faults_after) (sink err.before err.faults_before)
     (sink err.after err.faults_after) listening
 
--- the module of the outcome, a traced one, was run so: the bytes of its output are frames, where the sites of the program have these
--- positions, and out and err took what the frames say
+-- the module of the outcome, a traced one, was run in this way: the bytes of its output are frames, where the sites of the program have
+-- these positions, and out and err took what the frames say
 pub record RanTraced (input : HostPart Input) (out err : HostPart (List ℕ)) (room fuel : ℕ)
     (IsCause : (of_module : Cause) → (reported : Cause) → Type 0) (sites : List Pos) (outcome : Outcome) : Type 0 where
   pub framed : List ℕ

@@ -3,7 +3,7 @@ use Rattle.std.specs.Prelude.{ℕ}
 use Rattle.sa_driver.specs.declared.cause.Cause.{Cause}
 use Rattle.sa_driver.specs.declared.cause.Cause.TheVariants.{Done, Refused, Fault, Stopped, Spent, StoreFault, InFault, OutFault, Usage}
 use Rattle.sa_driver.specs.declared.cause.Cause.TheVariants.{Malformed, Invalid, Unlinked, Segment, Trap, TooDeep, NotListing}
-use Rattle.sa_driver.specs.declared.cause.Cause.TheVariants.{NoPage, NoLibraryFile, NoMemory}
+use Rattle.sa_driver.specs.declared.cause.Cause.TheVariants.{NoPage, NoLibraryFile, NoMemory, Broken}
 
 abbrev pub status_of : Cause → ℕ
 status_of Done = 0
@@ -18,6 +18,7 @@ status_of Usage = 124
 status_of NoPage = 124
 status_of NoLibraryFile = 124
 status_of NoMemory = 125
+status_of (Broken invariant) = 70
 status_of Malformed = 126
 status_of (Invalid func) = 126
 status_of (Unlinked import) = 126

@@ -1,4 +1,4 @@
-//! The typed program of what its files declare, with or without the checks of its contracts.
+//! The typed program that its files declare, with or without the checks of its contracts.
 
 ghost use Rattle.std.specs.Prelude.{◌≡◌, IfOk, MatchResult, None};
 ghost use Rattle.sa_contracts.specs.AskedChecks.{asked_by};
@@ -6,8 +6,9 @@ ghost use Rattle.sa_contracts.specs.NotQuiet.{first_in_features};
 ghost use Rattle.sa_cli.specs.declared.command.Contracts.TheVariants.{Checked};
 ghost use Rattle.sa_driver.specs.Accepted.{IsNotQuiet, asked_under, classes_under};
 
-use sa_ast::{Class, NoMemory, Refusal, Rejection};
-use sa_check::{check, check_all};
+use crate::classes::{check_all, check_needed};
+use failure::Failure;
+use sa_ast::{Class, Refusal, Rejection};
 use sa_cli::{Contracts, Extent};
 use sa_contracts::{Checks, WovenProgram, weave};
 use sa_read::ParsedFiles;
@@ -21,7 +22,7 @@ use std::alloc::Global;
 ///
 /// The first refusal by the rules of classes and bodies. Where contracts are checked, then that of the classes with the checks in
 /// their bodies, and then E46. Where all is checked, the further refusals of the same classes are put at the end of `further`.
-/// `NoMemory`.
+/// A `Failure`.
 #[tactic(auto, using(crate::proofs::QuietLemmas::none))]
 pub(crate) fn accepted(
     alloc: Global,
@@ -44,7 +45,7 @@ pub(crate) fn accepted(
     }
 }
 
-/// The typed program of classes, as far as it is asked for.
+/// The typed program of classes: what MAIN needs of them, or all.
 fn typed(
     alloc: Global,
     classes: &[Class],
@@ -53,12 +54,12 @@ fn typed(
     further: &mut Vec<Refusal>,
 ) -> Result<TypedProgram, Rejection> {
     match extent {
-        Extent::Needed => check(alloc, classes, texts),
+        Extent::Needed => check_needed(alloc, classes, texts),
         Extent::All => check_all(alloc, classes, texts, further),
     }
 }
 
-/// The typed program of what is declared, with the checks of contracts in the bodies.
+/// The typed program of the declared classes, with the checks of contracts in the bodies.
 fn with_checks(
     alloc: Global,
     declared: ParsedFiles,
@@ -74,8 +75,8 @@ fn with_checks(
     if_quiet(core, &woven.checks)
 }
 
-/// The declared classes with the checks in their bodies, and which checks these are.
-fn woven(alloc: Global, declared: ParsedFiles) -> Result<WovenProgram, NoMemory>
+/// The declared classes with the checks in their bodies, and a list of these checks.
+fn woven(alloc: Global, declared: ParsedFiles) -> Result<WovenProgram, Failure>
     ensures classes { IfOk result (λ woven. woven.classes ≡ classes_under Checked declared.contracts declared.classes) }
     ensures checks { IfOk result (λ woven. asked_by woven.checks ≡ asked_under Checked declared.contracts declared.classes) }
 {

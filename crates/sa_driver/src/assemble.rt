@@ -1,4 +1,4 @@
-//! The command `assemble`: the module of a listing is written to a file.
+//! The command `assemble`: the module that a listing lists is written to a file.
 
 ghost use Rattle.std.specs.Prelude.{◌≡◌, [], ◌<◌, ◌≤◌, None, length, IfErr, IfOk};
 ghost use Rattle.wa_encode.specs.Spelling.{IsLeast};
@@ -11,21 +11,22 @@ ghost use Rattle.sa_driver.specs.HostParts.{part};
 
 use crate::build::written;
 use crate::cause::Cause;
-use crate::compile::{no_sources, unread};
+use crate::compiler::{no_sources, unread};
 use crate::exec::without_file;
 use crate::outcome::Outcome;
+use failure::NoMemory;
 use host_io::WriteFiles;
 use sa_cli::Assemble;
 use sa_read::{FileContents, read_file};
 use std::alloc::Global;
 use wa_encode::encode;
-use wa_syntax::{Module, NoMemory};
+use wa_syntax::Module;
 use wa_text::{ListFault, read};
 
 /// How many bytes a listing's file has at most.
 const MOST_LISTING_BYTES: usize = 67_108_864;
 
-/// Writes the module of the listing in the file. A longer file is told as no listing by line 0.
+/// Writes the module of the listing in the file. A file of more than 67,108,864 bytes is reported as no listing, with line 0.
 pub fn assemble<'a, S: WriteFiles>(alloc: Global, line: &Assemble<'a>, store: &mut S) -> Outcome<'a>
     ensures does { IsAssembled (part S.files S.faults store.old store.new) line.now.out.now line.now.file.now result }
     ensures placed { IsPlaced result.sources result.cause }
@@ -69,7 +70,7 @@ fn assemble_text<'a, S: WriteFiles>(
     }
 }
 
-/// The outcome where the listing in this file is that of the module of these bytes.
+/// The outcome of the command for the listing in this file, with these bytes of its module.
 fn of_file<'a>(alloc: Global, file: &'a str, cause: Cause, module: Vec<u8>) -> Outcome<'a>
     ensures cause { result.cause ≡ cause }
     ensures done { result.done ≡ 0 }

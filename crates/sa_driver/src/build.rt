@@ -8,13 +8,13 @@ ghost use Rattle.sa_driver.specs.Ends.{AreWritten, IsWritten};
 ghost use Rattle.sa_driver.specs.Lines.{IsPlaced};
 ghost use Rattle.sa_driver.specs.HostParts.{part};
 
-use crate::cause::Cause;
-use crate::compile::{CompileResult, compile_files};
+use crate::cause::{Cause, failed};
+use crate::compiler::{CompileResult, compile_files};
 use crate::module::BuiltModule;
 use crate::outcome::Outcome;
 use crate::sites::sites_text;
 use host_io::{Outage, WriteFiles};
-use sa_ast::{NoMemory, Sources};
+use sa_ast::Sources;
 use sa_cli::{Build, Trace};
 use std::alloc::Global;
 
@@ -46,7 +46,7 @@ pub fn build<'a, S: WriteFiles>(alloc: Global, line: &Build<'a>, store: &mut S) 
     }
 }
 
-/// The cause after the module was written, and the positions of its faults, or one of them wasn't.
+/// The cause after writing the module and the positions of its faults; `Done` where both were written.
 fn write_built<S: WriteFiles>(
     alloc: Global,
     line: &Build<'_>,
@@ -63,12 +63,12 @@ fn write_built<S: WriteFiles>(
         None => written(store, line.out, bytes),
         Some(file) => match sites_text(alloc, sources, built.positions.as_slice()) {
             Ok(text) => both_written(store, line.out, bytes, file, text.as_slice()),
-            Err(NoMemory) => Cause::NoMemory,
+            Err(failure) => failed(failure),
         },
     }
 }
 
-/// The cause after the module was written and then the text to the other file, or one of them wasn't.
+/// The cause after writing the module and then the text to the other file; `Done` where both were written.
 fn both_written<S: WriteFiles>(
     store: &mut S,
     out: &str,
@@ -85,7 +85,7 @@ fn both_written<S: WriteFiles>(
     }
 }
 
-/// The cause after the module was written, or wasn't.
+/// The cause after writing the module; `Done` where it was written.
 pub fn written<S: WriteFiles>(store: &mut S, out: &str, module: &[u8]) -> Cause
     ensures written { IsWritten (part S.files S.faults store.old store.new) out.now «module».now result }
     ensures count { S.faults store.old ≤ S.faults store.new }

@@ -1,8 +1,11 @@
-//! How a call ends, and the status that says so.
+//! How a call ends, and the status that reports it.
 
 ghost use Rattle.std.specs.Prelude.{◌≡◌};
+ghost use Rattle.sa_driver.specs.Ends.{ComesBeforeOutput};
+ghost use Rattle.sa_driver.specs.Internal.{IsInternal};
 ghost use Rattle.sa_driver.specs.Status.{status_of};
 
+use failure::{Failure, Invariant};
 use sa_ast::{FaultKind, Pos, Refusal};
 use sqlite_items::Items;
 use wa_syntax::TrapKind;
@@ -10,11 +13,11 @@ use wa_syntax::TrapKind;
 /// How a call of `sather` ended.
 #[derive(Clone, Copy, Debug, PartialEq, Eq, Hash)]
 pub enum Cause {
-    /// The command did what it is for. Of a program that was run, the status is its own.
+    /// The command was carried out. For a program that was run, the status is its own.
     Done,
-    /// The source breaks a written rule, at the position.
+    /// The source breaks a rule of the language, at this position.
     Refused(Refusal),
-    /// The program stopped with the fault of this kind at the position.
+    /// The program stopped with a fault of this kind at this position.
     Fault(FaultKind, Pos),
     /// A module stopped by its own call of `env.stop` with these two numbers.
     Stopped(u32, u32),
@@ -26,14 +29,13 @@ pub enum Cause {
     InFault,
     /// The output failed.
     OutFault,
-    /// The words are no command.
+    /// The arguments form no command.
     Usage,
-    /// The file is no module.
+    /// The bytes of the file spell no module.
     Malformed,
-    /// The module isn't valid: the number of the first ill-typed function of its own, or none where a rule outside the
-    /// bodies is broken.
+    /// The module isn't valid: the index of the first ill-typed function of its own, or none where a rule outside the bodies is broken.
     Invalid(Option<u32>),
-    /// The import with this number can't be given, or, with the number of imports, there is no `main` to call.
+    /// The import with this index can't be given, or, where this is the number of imports, there is no `main` to call.
     Unlinked(u32),
     /// A segment of the module doesn't fit.
     Segment,
@@ -41,7 +43,7 @@ pub enum Cause {
     Trap(TrapKind),
     /// The module's calls are nested too deep.
     TooDeep,
-    /// The text is no listing of a module, from the line with this number on.
+    /// The text is no listing of a module, from the line with this number on; 0 where its file is too large.
     NotListing(u32),
     /// The word that was to be explained has no page.
     NoPage,
@@ -49,9 +51,11 @@ pub enum Cause {
     NoLibraryFile,
     /// Memory ran out.
     NoMemory,
+    /// The compiler is wrong: this invariant of it is broken.
+    Broken(Invariant),
 }
 
-/// What a call of `sather` leaves besides what it gave to the outside.
+/// What a call of `sather` leaves besides what it did to the host.
 #[derive(Drop)]
 pub struct Exit {
     /// The status that the process ends with.
@@ -62,7 +66,7 @@ pub struct Exit {
 }
 
 impl Cause {
-    /// The status of the cause. That of `Done` is 0, unless a program that was run says otherwise.
+    /// The status of the cause. That of `Done` is 0, unless a program that was run gives another one.
     pub fn status(&self) -> u8
         ensures { result ≡ status_of self.now }
     {
@@ -74,6 +78,7 @@ impl Cause {
             Cause::StoreFault | Cause::InFault | Cause::OutFault => 123,
             Cause::Usage | Cause::NoPage | Cause::NoLibraryFile => 124,
             Cause::NoMemory => 125,
+            Cause::Broken(_) => 70,
             Cause::Malformed
             | Cause::Invalid(_)
             | Cause::Unlinked(_)
@@ -82,5 +87,17 @@ impl Cause {
             | Cause::TooDeep
             | Cause::NotListing(_) => 126,
         }
+    }
+}
+
+/// The cause where a pass failed.
+#[tactic(auto, using(crate::proofs::InternalLemmas::later))]
+pub fn failed(failure: Failure) -> Cause
+    ensures internal { IsInternal result }
+    ensures later { ComesBeforeOutput result → ⊥ }
+{
+    match failure {
+        Failure::NoMemory => Cause::NoMemory,
+        Failure::Broken(invariant) => Cause::Broken(invariant),
     }
 }

@@ -6,20 +6,21 @@ ghost use Rattle.sa_trace.specs.declared.sinks.ErrStatus.TheVariants as listenin
 ghost use Rattle.sa_driver.specs.Answer.{IsChecked};
 ghost use Rattle.sa_driver.specs.Ends.{ComesBeforeOutput};
 ghost use Rattle.sa_driver.specs.Further.{MayReportFurther, ReportsEach};
+ghost use Rattle.sa_driver.specs.Internal.{IsInternal};
 ghost use Rattle.sa_driver.specs.Lines.{IsPlaced};
 ghost use Rattle.sa_driver.specs.HostParts.{part};
 
-use crate::cause::Cause;
-use crate::compile::{CheckResult, check_files};
+use crate::cause::{Cause, failed};
+use crate::compiler::{CheckResult, check_files};
 use crate::further::refusal_lines;
 use crate::outcome::Outcome;
 use crate::print::print;
 use host_io::{ReadFiles, Sink};
-use sa_ast::{NoMemory, Refusal, Sources};
+use sa_ast::{Refusal, Sources};
 use sa_cli::{Check, Extent};
 use std::alloc::Global;
 
-/// What out takes of a program that is accepted.
+/// What is put on out for a program that is accepted.
 const ACCEPTED: &[u8] = b"accepted\n";
 
 /// Prints on out that the program is accepted, or gives the cause why it isn't, and the further refusals where all is checked.
@@ -58,7 +59,7 @@ pub fn check<'a, S: ReadFiles, O: Sink>(
     }
 }
 
-/// The outcome of a program that isn't accepted for this cause, with further refusals and their lines where all is checked.
+/// The outcome for a program that isn't accepted for this cause, with further refusals and their lines where all is checked.
 fn unaccepted<'a>(
     alloc: Global,
     extent: Extent,
@@ -67,7 +68,7 @@ fn unaccepted<'a>(
     further: Vec<Refusal>,
 ) -> Outcome<'a>
     requires placed { IsPlaced sources cause }
-    ensures cause { (result.cause ≡ cause) ⊎ (result.cause ≡ Cause.NoMemory) }
+    ensures cause { (result.cause ≡ cause) ⊎ IsInternal result.cause }
     ensures sources { result.sources ≡ sources }
     ensures placed { IsPlaced result.sources result.cause }
     ensures bytes { result.«module».items ≡ [] }
@@ -88,7 +89,8 @@ fn unaccepted<'a>(
     }
 }
 
-/// The outcome of a program that is refused, with further refusals and their lines.
+/// The outcome for a program that is refused, with further refusals and their lines.
+#[tactic(auto, using(crate::proofs::InternalLemmas::placed))]
 fn all_refused<'a>(
     alloc: Global,
     first: Refusal,
@@ -96,7 +98,7 @@ fn all_refused<'a>(
     further: Vec<Refusal>,
 ) -> Outcome<'a>
     requires placed { IsPlaced sources (Cause.Refused first) }
-    ensures cause { (result.cause ≡ Cause.Refused first) ⊎ (result.cause ≡ Cause.NoMemory) }
+    ensures cause { (result.cause ≡ Cause.Refused first) ⊎ IsInternal result.cause }
     ensures sources { result.sources ≡ sources }
     ensures placed { IsPlaced result.sources result.cause }
     ensures bytes { result.«module».items ≡ [] }
@@ -116,6 +118,6 @@ fn all_refused<'a>(
                 ..outcome
             }
         }
-        Err(NoMemory) => Outcome::without_module(alloc, Cause::NoMemory, sources),
+        Err(failure) => Outcome::without_module(alloc, failed(failure), sources),
     }
 }

@@ -5,7 +5,7 @@ ghost use Rattle.sa_driver.specs.Files.{is_of_checker};
 
 use sa_ast::Rule;
 
-/// Whether a rule is one that the checker decides, and none of tokens, of grammar or of the size of sources.
+/// Whether the checker decides this rule: whether it is none of tokens, of grammar or of the size of sources.
 pub fn is_of_checker(rule: Rule) -> bool
     ensures { result ≡ is_of_checker rule }
 {

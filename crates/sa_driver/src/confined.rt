@@ -1,22 +1,22 @@
-//! The trial whether a module is confined: what it can take of memory, and what of it can be reached from outside.
+//! Whether a module is confined: how much memory it can take, and which of its parts the host can reach.
 
 ghost use Rattle.std.specs.Prelude.{◌≡◌, ◌≤◌, ◌*◌, true, Some};
 ghost use Rattle.sa_correctness.specs.Confined as are;
 
 use wa_syntax::{Export, ExportKind, Limits, Module};
 
-/// The KiB of a page.
+/// The size of a page in KiB.
 const PAGE: u64 = 64;
 
-/// Whether the memory of a module has so many KiB of room and never grows, nothing runs before `main`, and nothing but `main` and the
-/// memory can be reached.
+/// Whether the memory of a module has at least this room in KiB and never grows, nothing runs before `main`, and nothing but `main` and the
+/// memory is exported.
 pub(crate) fn is_confined(module: &Module, room: u32) -> bool
     ensures { result ≡ true → are.IsConfined room «module».now }
 {
     has_room(module, room) && module.start.is_none() && exports_main(module)
 }
 
-/// Whether a module has one memory, which never grows, and which holds so many KiB.
+/// Whether a module has exactly one memory, which never grows, and which has at least this room in KiB.
 fn has_room(module: &Module, room: u32) -> bool
     ensures { result ≡ true → are.HasRoom room «module».now }
 {
@@ -26,14 +26,14 @@ fn has_room(module: &Module, room: u32) -> bool
     }
 }
 
-/// Whether a memory has at its start as many pages as at most.
+/// Whether a memory has as many pages at its start as it may ever have.
 fn is_fixed(memory: &Limits) -> bool
     ensures { result ≡ true → memory.now.max ≡ Some memory.now.min }
 {
     memory.max == Some(memory.min)
 }
 
-/// Whether a memory holds so many KiB at its start.
+/// Whether a memory has at least this room in KiB at its start.
 fn holds(memory: &Limits, room: u32) -> bool
     ensures { result ≡ true → room ≤ memory.now.min * 64 }
 {
@@ -50,7 +50,7 @@ fn exports_main(module: &Module) -> bool
     }
 }
 
-/// Whether a function is exported as `main`.
+/// Whether an export is `main`, a function.
 fn is_main(export: &Export) -> bool
     ensures { result ≡ true → are.IsMain export.now }
 {
@@ -60,7 +60,7 @@ fn is_main(export: &Export) -> bool
     }
 }
 
-/// Whether the memory is exported as `memory`.
+/// Whether an export is `memory`, the memory.
 fn is_memory(export: &Export) -> bool
     ensures { result ≡ true → are.IsMemory export.now }
 {

@@ -13,7 +13,7 @@ ghost use Rattle.wa_run.specs.Answers.{IsBeforeRun};
 ghost use Rattle.wa_run.specs.declared.module_run.RunResult.{RunResult as Runs};
 
 use crate::cause::Cause;
-use crate::compile::{no_sources, unread};
+use crate::compiler::{no_sources, unread};
 use crate::outcome::Outcome;
 use host_io::{ReadFiles, Sink, Source};
 use sa_ast::Sources;
@@ -34,13 +34,14 @@ pub struct RunEnd {
     pub done: u8,
     /// How many steps the machine made.
     pub steps: u64,
-    /// The function of the module whose instruction ended the run by a trap or a call that is too deep, where one did.
+    /// The index of the function of the module whose instruction ended the run by a trap or by a call that is nested too deep, where one
+    /// did.
     pub func: Option<usize>,
 }
 
 impl RunEnd {
-    /// The outcome of a command that ran this module. It has the steps where they are asked for and the module ended
-    /// by itself or at its fuel.
+    /// The outcome of a command that ran this module. It has the steps where they are asked for and the module ended by itself or when its
+    /// fuel was spent.
     pub fn outcome<'a>(
         self,
         alloc: Global,
@@ -75,7 +76,7 @@ impl RunEnd {
     }
 }
 
-/// Whether the steps of a run that ended so may be shown.
+/// Whether the steps of a run with this cause may be shown.
 fn has_steps(cause: &Cause) -> bool
     ensures { result ≡ has_steps cause.now }
 {
@@ -114,7 +115,7 @@ pub fn exec<'a, S: ReadFiles, I: Source, O: Sink>(
     }
 }
 
-/// The outcome of a command that was to read this file, where there is no module to hand out.
+/// The outcome of a command that was to read this file and has no module to give out.
 pub fn without_file<'a>(alloc: Global, file: &'a str, cause: Cause) -> Outcome<'a>
     ensures cause { result.cause ≡ cause }
     ensures done { result.done ≡ 0 }
@@ -164,7 +165,7 @@ fn ended_of(run: RunResult, fuel: u64) -> RunEnd
     }
 }
 
-/// The cause of an answer.
+/// The cause for an answer of a run with this fuel.
 pub fn cause_of(answer: Answer, fuel: u64) -> Cause
     ensures value { result ≡ cause_of fuel answer }
     ensures before { ComesBeforeOutput result → IsBeforeRun answer }

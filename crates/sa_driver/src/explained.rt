@@ -1,4 +1,4 @@
-//! What is told of a cause behind its lines, where the words ask for it.
+//! The explanation of a cause, which is put on err after the lines where the arguments ask for it.
 
 ghost use Rattle.sa_driver.specs.Report.{ReportsMore};
 ghost use Rattle.sa_driver.specs.HostParts.{part};
@@ -11,15 +11,16 @@ use crate::outcome::Outcome;
 use crate::requests::Request;
 use crate::retyped::typed_again;
 use crate::usage_end::usage_end;
+use failure::Failure;
 use host_io::Sink;
-use sa_ast::{FaultKind, NoMemory, Pos, Sources};
+use sa_ast::{FaultKind, Pos, Sources};
 use sa_cli::{Contracts, Detail};
 use sa_explain::{explain_fault, explain_refusals};
 use sa_trace::ErrStatus;
 use std::alloc::Global;
 
-/// Puts on err what explains the cause that stands at the end of an outcome, if that is asked for and err still listens. Where memory
-/// runs out in it, or err fails, the lines that are there stay as they are.
+/// Puts on err what explains the final cause of an outcome, if that is asked for and err still listens. Where memory runs out in it, or err
+/// fails, the lines that are there stay as they are.
 pub fn report_more<E: Sink>(
     alloc: Global,
     asked: Request<'_>,
@@ -38,7 +39,7 @@ pub fn report_more<E: Sink>(
     }
 }
 
-/// Puts on err what explains a cause of an outcome.
+/// Puts on err the explanation of a cause of an outcome.
 fn put_explanation<E: Sink>(
     alloc: Global,
     asked: Request<'_>,
@@ -50,11 +51,11 @@ fn put_explanation<E: Sink>(
 {
     match explanation(alloc, asked, outcome, cause) {
         Ok(text) => put_more(text.as_slice(), err),
-        Err(NoMemory) => {}
+        Err(_) => {}
     }
 }
 
-/// Puts a text on err, or a front of it where err fails or has no memory.
+/// Puts a text on err, or a prefix of it where err fails or has no memory.
 fn put_more<E: Sink>(text: &[u8], err: &mut E)
     ensures { ReportsMore Detail.Explained (part E.output E.faults err.old err.new) }
 {
@@ -64,13 +65,13 @@ fn put_more<E: Sink>(text: &[u8], err: &mut E)
     }
 }
 
-/// What explains a cause of an outcome.
+/// The explanation of a cause of an outcome.
 fn explanation(
     alloc: Global,
     asked: Request<'_>,
     outcome: &Outcome<'_>,
     cause: Cause,
-) -> Result<Vec<u8>, NoMemory> {
+) -> Result<Vec<u8>, Failure> {
     let module = outcome.module.as_slice();
     match cause {
         Cause::Refused(refusal) => explain_refusals(
@@ -88,14 +89,14 @@ fn explanation(
     }
 }
 
-/// What explains a fault at a position. The typed tree tells more of one in the prelude, and of an exception.
+/// The explanation of a fault at a position. Of one in the prelude, and of an exception, the typed AST says more.
 fn fault(
     alloc: Global,
     contracts: Contracts,
     sources: &Sources,
     kind: FaultKind,
     pos: Pos,
-) -> Result<Vec<u8>, NoMemory> {
+) -> Result<Vec<u8>, Failure> {
     if pos.file != 0 && kind != FaultKind::Uncaught {
         return explain_fault(alloc, sources, None, kind, pos);
     }

@@ -1,20 +1,20 @@
-//! What is said of the function of a module in which its run has ended.
+//! A sentence on the function of a module in which its run ended.
 
 use crate::decoded_module::decoded_module;
-use sa_ast::NoMemory;
+use failure::Failure;
 use sa_diagnostics::{MessagePart, Sentences};
 use std::alloc::{AllocError, Global};
 use wa_syntax::{Export, ExportKind, Module};
 
-/// A sentence that begins with these words and names a function of the module of these bytes: by its number, and by the name that it is
-/// exported under, where it has one. Nothing where no function is known.
+/// A sentence that begins with these words and names a function of the module of these bytes: by its index, and by the name under which it
+/// is exported, where it has one. No sentence where no function is known.
 pub fn say_function(
     alloc: Global,
     bytes: &[u8],
     func: Option<usize>,
     front: &str,
     said: &mut Sentences,
-) -> Result<(), NoMemory> {
+) -> Result<(), Failure> {
     let Some(number) = func else {
         return Ok(());
     };
@@ -49,7 +49,7 @@ fn unnamed(front: &str, number: usize, said: &mut Sentences) -> Result<(), Alloc
     ])
 }
 
-/// The first name that the function with a number is exported under.
+/// The first name under which the function with this index is exported.
 fn exported_name(module: Option<&Module>, number: usize) -> Option<&[u8]> {
     let export = module?
         .exports
@@ -59,7 +59,7 @@ fn exported_name(module: Option<&Module>, number: usize) -> Option<&[u8]> {
     Some(export.name.as_slice())
 }
 
-/// Whether an export is that of the function with a number.
+/// Whether an export is that of the function with this index.
 fn is_of(export: &Export, number: usize) -> bool {
     match export.kind {
         ExportKind::Func(func) => func as usize == number,

@@ -1,4 +1,4 @@
-//! The lines of the refusals that are told behind the first one.
+//! The lines of the refusals that are reported after the first one.
 
 ghost use Rattle.std.specs.Prelude.{◌≡◌, ◌++◌, IfOk, OnOk};
 ghost use Rattle.std.specs.List.{All};
@@ -7,16 +7,17 @@ ghost use Rattle.sa_driver.specs.Further.{IsFurther, refusal_line, refusal_lines
 use crate::checkers::is_of_checker;
 use crate::lines::about_place;
 use crate::place::is_place_in;
-use sa_ast::{NoMemory, Refusal, Sources};
+use failure::{Failure, Invariant, broken};
+use sa_ast::{Refusal, Sources};
 use std::alloc::Global;
 
-/// The lines of refusals of a program of these texts, in order. A refusal that isn't the checker's, or at no place in the texts, which
-/// the checker never gives, is answered as out of memory.
+/// The lines of refusals of a program of these texts, in order. A refusal that isn't the checker's, or at no position in the texts, which
+/// the checker never gives, is an internal error.
 pub fn refusal_lines(
     alloc: Global,
     sources: &Sources,
     refusals: &[Refusal],
-) -> Result<Vec<u8>, NoMemory>
+) -> Result<Vec<u8>, Failure>
     ensures lines { IfOk result (λ lines. lines.items ≡ refusal_lines sources.now refusals.now) }
     ensures further { IfOk result (λ lines. All (IsFurther sources.now) refusals.now) }
 {
@@ -33,12 +34,15 @@ fn add_line(
     lines: &mut Vec<u8>,
     sources: &Sources,
     refusal: Refusal,
-) -> Result<(), NoMemory>
+) -> Result<(), Failure>
     ensures line { OnOk result (lines.new.items ≡ lines.old.items ++ refusal_line sources.now refusal) }
     ensures further { OnOk result (IsFurther sources.now refusal) }
 {
-    if !is_of_checker(refusal.rule) || !is_place_in(sources.texts.as_slice(), refusal.pos) {
-        return Err(NoMemory);
+    if !is_of_checker(refusal.rule) {
+        return broken(Invariant::RefusalPhase);
+    }
+    if !is_place_in(sources.texts.as_slice(), refusal.pos) {
+        return broken(Invariant::RefusalPosition);
     }
     let line = about_place(alloc, sources, refusal.pos, "", refusal.rule.text())?;
     lines.extend_from_slice(line.as_slice())?;

@@ -1,17 +1,17 @@
-//! What is said of a command that ended for a file, a stream or its fuel.
+//! The explanation for a command that ended by a fault of a file or a stream, or because its fuel was spent.
 
 use crate::cause::Cause;
 use crate::requests::Request;
-use sa_ast::NoMemory;
+use failure::Failure;
 use sa_diagnostics::{MessagePart, Sentences};
 use std::alloc::{AllocError, Global};
 
-/// What a fault of the store means: a file couldn't be read, or the module couldn't be written.
+/// The explanation of a store fault: a file couldn't be read, or the module couldn't be written.
 pub fn store_fault(
     alloc: Global,
     asked: Request<'_>,
     is_reading: bool,
-) -> Result<Vec<u8>, NoMemory> {
+) -> Result<Vec<u8>, Failure> {
     let mut said = Sentences::new(alloc);
     if is_reading {
         unread(asked.read, &mut said)?;
@@ -53,8 +53,8 @@ fn unwritten(file: Option<&str>, said: &mut Sentences) -> Result<(), AllocError>
     said.say_words("Write to another file.")
 }
 
-/// What it means that the fuel was spent, or that a stream failed.
-pub fn host_end(alloc: Global, cause: Cause) -> Result<Vec<u8>, NoMemory> {
+/// The explanation of fuel that was spent, or of a fault of a stream.
+pub fn host_end(alloc: Global, cause: Cause) -> Result<Vec<u8>, Failure> {
     let mut said = Sentences::new(alloc);
     match cause {
         Cause::Spent(steps) => {

@@ -1,4 +1,4 @@
-//! The top call: from the words of a command line to its exit.
+//! The compiler driver: `sather` executes the arguments of a command line and gives an exit; `compile` compiles texts in memory.
 #![tactic(auto)]
 
 mod accepted;
@@ -7,9 +7,11 @@ mod build;
 mod cause;
 mod check;
 mod checkers;
-mod compile;
+mod classes;
+mod compiler;
 mod confined;
 mod decoded_module;
+mod dump;
 mod exec;
 mod explained;
 mod function;
@@ -22,6 +24,7 @@ mod memory_end;
 mod module;
 mod module_end;
 mod outcome;
+mod passes;
 mod place;
 mod print;
 mod report;
@@ -37,5 +40,8 @@ mod unlinked;
 mod usage_end;
 
 pub use cause::{Cause, Exit};
+pub use classes::check_needed;
+pub use compiler::{CheckResult, CompileResult, check_texts, compile, compile_checked};
 pub use lines::NO_MEMORY;
+pub use module::{BuiltModule, cfg_of};
 pub use top::sather;

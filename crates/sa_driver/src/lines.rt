@@ -1,11 +1,12 @@
 //! The lines on err.
 
 ghost use Rattle.std.specs.Prelude.{◌≡◌, ◌++◌, ◌∷◌, [], ◌<◌, ◌^◌, codes, map, decimal, length, slice_get, unwrap_or, IfOk, OnOk};
-ghost use Rattle.sa_driver.specs.Lines.{about_place, about_file, stop_line, listing_line};
+ghost use Rattle.sa_driver.specs.Lines.{about_place, about_file, internal_error, stop_line, listing_line};
 ghost use Rattle.sa_driver.specs.Lines.{line_of_cause, lines_of, statistics, IsPlaced, IsInside};
 
 use crate::cause::Cause;
 use crate::outcome::Outcome;
+use failure::Invariant;
 use itoa::Buffer;
 use sa_ast::{Pos, Sources, line_of};
 use std::alloc::{AllocError, Global};
@@ -36,8 +37,8 @@ fn add_statistics(lines: &mut Vec<u8>, steps: u64, bytes: u64) -> Result<(), All
     Ok(())
 }
 
-/// The line of a cause, ended by a line feed, or nothing for `Done`. The sources are the program's, and the file is
-/// that of the module or the listing.
+/// The line of a cause, ended by a line feed, or nothing for `Done`. The sources are the program's, and the file is that of the module or
+/// the listing.
 fn line(alloc: Global, sources: &Sources, file: &str, cause: &Cause) -> Result<Vec<u8>, AllocError>
     requires { IsPlaced sources.now cause.now }
     ensures { IfOk result (λ line. line.items ≡ line_of_cause sources.now file.now cause.now) }
@@ -78,13 +79,24 @@ fn line(alloc: Global, sources: &Sources, file: &str, cause: &Cause) -> Result<V
             b"no file: lib takes a name that sather lib lists\n",
         ),
         Cause::NoMemory => Vec::from_slice(alloc, NO_MEMORY),
+        Cause::Broken(invariant) => internal_error(alloc, *invariant),
     }
 }
 
 /// The line of the cause that memory has run out.
 pub const NO_MEMORY: &[u8] = b"out of memory\n";
 
-/// `FILE:LINE: TEXT` about a place, where the text has two parts.
+/// The line of an internal error.
+fn internal_error(alloc: Global, invariant: Invariant) -> Result<Vec<u8>, AllocError>
+    ensures { IfOk result (λ line. line.items ≡ internal_error invariant) }
+{
+    let mut line = Vec::from_slice(alloc, b"internal error: ")?;
+    line.extend_from_slice(invariant.name().as_bytes())?;
+    line.extend_from_slice(b"; please report this program\n")?;
+    Ok(line)
+}
+
+/// `FILE:LINE: TEXT` about a position, where the text has two parts.
 pub fn about_place(
     alloc: Global,
     sources: &Sources,
@@ -105,7 +117,7 @@ pub fn about_place(
     Ok(line)
 }
 
-/// The name of the text with this number, or nothing where it has none.
+/// The name of the text with this index, or nothing where it has none.
 fn file_name(alloc: Global, sources: &Sources, file: u32) -> Result<Vec<u8>, AllocError>
     ensures { IfOk result (λ name. name.items ≡ unwrap_or (slice_get sources.now.names file) []) }
 {

@@ -12,16 +12,17 @@ ghost use Rattle.sa_driver.specs.Listings.{IsListingOf, ListsModule, SaysNoListi
 ghost use Rattle.sa_driver.specs.HostParts.{part};
 
 use crate::cause::Cause;
-use crate::compile::unread;
+use crate::compiler::unread;
 use crate::exec::{MOST_MODULE_BYTES, without_file};
 use crate::outcome::Outcome;
 use crate::print::print;
+use failure::NoMemory;
 use host_io::{ReadFiles, Sink};
 use sa_cli::Listing;
 use sa_read::{FileContents, read_file};
 use std::alloc::Global;
 use wa_decode::{DecodeFault, decode};
-use wa_syntax::{Module, NoMemory};
+use wa_syntax::Module;
 use wa_text::write;
 
 /// Puts the listing of the module in the file on out.
@@ -53,7 +54,7 @@ pub fn listing<'a, S: ReadFiles, O: Sink>(
     }
 }
 
-/// The cause after the listing of the module of these bytes was put on out, or wasn't.
+/// The cause after putting the listing of the module of these bytes on out; `Done` where out took it.
 fn list<O: Sink>(alloc: Global, bytes: &[u8], out: &mut O) -> Cause
     requires { length bytes.now < 4294967295 }
     ensures lists { ListsModule (part O.output O.faults out.old out.new) bytes.now result }

@@ -1,10 +1,10 @@
-//! What is said of bytes that are no module: where they stop being one.
+//! The explanation for bytes that spell no module: where they stop being one.
 
 use sa_diagnostics::{MessagePart, Sentences};
 use std::alloc::AllocError;
 use wa_diagnose::{FormatError, FormatErrorKind, ModulePart, find_format_error};
 
-/// What bytes without a module are told by: what they begin with, or the first place at which they are wrong.
+/// Explains why bytes spell no module: by what they begin with, or by the first position at which they are wrong.
 pub fn malformed(module: &[u8], said: &mut Sentences) -> Result<(), AllocError> {
     if module.is_empty() {
         said.say_words("The file has no bytes, or more than 67108864.")?;
@@ -32,14 +32,14 @@ pub fn malformed(module: &[u8], said: &mut Sentences) -> Result<(), AllocError> 
     }
 }
 
-/// What to do with another file.
+/// A sentence on what to do with a file of another kind.
 fn for_another(said: &mut Sentences) -> Result<(), AllocError> {
     said.say_words(
         "A source is run by `run`, a listing is made a module by `assemble`, and `exec` takes what `build` has made.",
     )
 }
 
-/// What is wrong at a place of a module, where this byte stands, or none any more.
+/// A sentence on what is wrong at a position of a module, where this byte is, or none any more.
 fn wrong_at(flaw: FormatError, byte: Option<u8>, said: &mut Sentences) -> Result<(), AllocError> {
     let (following, there, occurs) = occurrence(byte);
     let (inside, number, name) = part_of_module(flaw.place);
@@ -62,7 +62,7 @@ fn wrong_at(flaw: FormatError, byte: Option<u8>, said: &mut Sentences) -> Result
     )
 }
 
-/// What is said of the byte at the place, behind its number.
+/// What is said of the byte at the position, after its number.
 fn occurrence(
     byte: Option<u8>,
 ) -> (
@@ -84,7 +84,7 @@ fn occurrence(
     }
 }
 
-/// What is said of the part of the module that the place is in.
+/// What is said of the part of the module that contains the position.
 fn part_of_module(
     place: ModulePart,
 ) -> (
@@ -111,7 +111,7 @@ fn part_of_module(
     }
 }
 
-/// The name of the section with a number.
+/// The name of the section with this number.
 fn section_name(number: u8) -> &'static str {
     match number {
         0 => ", a custom one",

@@ -1,13 +1,13 @@
-//! What is said where the memory of a module is bounded and begins with more.
+//! The explanation where the memory of a module is bounded and is larger at its start.
 
 use crate::decoded_module::decoded_module;
-use sa_ast::NoMemory;
+use failure::Failure;
 use sa_diagnostics::{MessagePart, Sentences};
 use std::alloc::{AllocError, Global};
 use wa_syntax::Module;
 
-/// What want of memory means where the memory of the module of these bytes is bounded: it begins with more than that. Else nothing.
-pub fn memory_end(alloc: Global, module: &[u8], pages: Option<u32>) -> Result<Vec<u8>, NoMemory> {
+/// The explanation of want of memory where the memory of the module of these bytes is bounded: it begins with more than that. Else nothing.
+pub fn memory_end(alloc: Global, module: &[u8], pages: Option<u32>) -> Result<Vec<u8>, Failure> {
     let mut said = Sentences::new(alloc);
     if let Some(pages) = pages {
         if let Some(module) = decoded_module(alloc, module)? {
@@ -17,7 +17,7 @@ pub fn memory_end(alloc: Global, module: &[u8], pages: Option<u32>) -> Result<Ve
     Ok(said.text)
 }
 
-/// A memory that begins with more than so many pages.
+/// A sentence on a memory that has more than this number of pages at its start.
 fn begins_past(module: &Module, pages: u32, said: &mut Sentences) -> Result<(), AllocError> {
     match module.memories.as_slice().first() {
         Some(limits) if limits.min > pages => {

@@ -1,4 +1,4 @@
-//! The module of a typed program, which is tried before it is given: it is valid, it is linked, its segments fit, and it is confined.
+//! The module of a typed program, which is verified before it is given: it is valid, it is linked, its segments fit, and it is confined.
 
 ghost use Rattle.std.specs.Prelude.{◌≡◌, ◌++◌, ◌<◌, flat_map, length, map, IfOk, OnOk};
 ghost use Rattle.sa_driver.specs.Built.{IsNumbered, IsVerified, feature_sites};
@@ -6,94 +6,84 @@ ghost use Rattle.sa_correctness.specs.Confined.{IsConfined};
 ghost use Rattle.sa_typing.specs.WellTyped.{IsWellTyped};
 
 use crate::confined::is_confined;
-use sa_ast::{NoMemory, Pos};
+use crate::passes::module_of_well_typed;
+use failure::{Failure, Invariant, broken};
+use sa_ast::Pos;
 use sa_cfg::CfgProgram;
 use sa_cli::Trace;
-use sa_dispatch::{ImplementationTable, implementation_table};
+use sa_dispatch::ImplementationTable;
 use sa_emit::{emit, emit_traced};
 use sa_lower::lower;
 use sa_typed::{Site, TypedFeature, TypedProgram, positions};
 use sa_typing::is_well_typed;
 use sqlite_items::Items;
 use std::alloc::Global;
-use wa_encode::encode;
-use wa_run::runnable;
+use wa_run::{Answer, runnable};
 use wa_syntax::Module;
 use wa_valid::Valid;
 
-/// A program's module, its bytes, and the positions that these name by number.
+/// A program's module, its bytes, and the positions that it names by index.
 #[derive(Drop)]
 pub struct BuiltModule {
     pub module: Valid,
     pub bytes: Vec<u8>,
-    /// Those that a stop names.
+    /// The positions that a stop names.
     pub positions: Items<Pos>,
-    /// Those of the sites, which a traced module names.
+    /// The positions of the sites, which a traced module names.
     pub sites: Items<Pos>,
 }
 
-/// The module of a typed program, traced or not, with so many KiB of room for its objects. Fails where memory runs out, also where the
-/// tree isn't well typed, and where a module of WebAssembly can't be as large as this one, can't be run, or isn't confined.
+/// The module of a typed program, traced or not, with this room for its objects in KiB. Fails with `NoMemory` where memory runs out or a
+/// module of WebAssembly can't be as large as this one, and with `Broken` where the compiler is wrong: the AST isn't well typed, or the
+/// module can't be run or isn't confined.
 pub fn module_of(
     alloc: Global,
     core: TypedProgram,
     room: u32,
     trace: Trace,
-) -> Result<BuiltModule, NoMemory>
+) -> Result<BuiltModule, Failure>
     ensures tried { IfOk result IsVerified }
     ensures confined { IfOk result (λ built. IsConfined room built.«module») }
     ensures well { IfOk result (λ _. IsWellTyped core) }
     ensures numbered { IfOk result (IsNumbered core) }
 {
     if !is_well_typed(alloc, &core)? {
-        return Err(NoMemory);
+        return broken(Invariant::IllTyped);
     }
     module_of_well_typed(alloc, core, room, trace)
 }
 
-/// The module of a typed program that is well typed: it is lowered and emitted.
-fn module_of_well_typed(
-    alloc: Global,
-    core: TypedProgram,
-    room: u32,
-    trace: Trace,
-) -> Result<BuiltModule, NoMemory>
-    requires well { IsWellTyped core }
-    ensures tried { IfOk result IsVerified }
-    ensures confined { IfOk result (λ built. IsConfined room built.«module») }
-    ensures numbered { IfOk result (IsNumbered core) }
+/// The control-flow graphs of a typed program.
+///
+/// # Errors
+///
+/// `NoMemory`; `Broken` where the program isn't well typed.
+pub fn cfg_of(alloc: Global, core: &TypedProgram) -> Result<CfgProgram, Failure>
+    ensures well { IfOk result (λ _. IsWellTyped core.now) }
 {
-    let positions = positions(alloc, &core)?;
-    let sites = sites(alloc, core.features.as_slice())?;
-    let flat = lower(alloc, &core, positions)?;
-    let rows = implementation_table(alloc, &core)?;
-    drop(core);
-    let module = emitted(alloc, &flat, &rows, room, trace)?;
-    let CfgProgram { positions, .. } = flat;
-    match encode(alloc, &module) {
-        Ok(bytes) if bytes.len() < u32::MAX as usize => tried(alloc, bytes, room, positions, sites),
-        _ => Err(NoMemory),
+    if !is_well_typed(alloc, core)? {
+        return broken(Invariant::IllTyped);
     }
+    lower(alloc, core, positions(alloc, core)?)
 }
 
-/// The module of a flat program, traced or not.
-fn emitted(
+/// The module of a program's control-flow graphs, traced or not.
+pub(crate) fn emitted(
     alloc: Global,
     flat: &CfgProgram,
     rows: &ImplementationTable,
     room: u32,
     trace: Trace,
-) -> Result<Module, NoMemory> {
-    let emitted = match trace {
+) -> Result<Module, Failure> {
+    match trace {
         Trace::Silent => emit(alloc, flat, rows, room),
         Trace::Reported => emit_traced(alloc, flat, rows, room),
-    };
-    emitted.map_err(|_| NoMemory)
+    }
 }
 
 /// The positions of the sites of features, one feature after the other.
 #[tactic(auto, using(crate::proofs::ModuleLemmas::sites_from))]
-fn sites(alloc: Global, features: &[TypedFeature]) -> Result<Items<Pos>, NoMemory>
+pub(crate) fn sites(alloc: Global, features: &[TypedFeature]) -> Result<Items<Pos>, Failure>
     ensures { IfOk result (λ sites. sites ≡ flat_map feature_sites features.now) }
 {
     let mut sites = Items::new(alloc);
@@ -104,7 +94,7 @@ fn sites(alloc: Global, features: &[TypedFeature]) -> Result<Items<Pos>, NoMemor
 }
 
 /// Adds the positions of sites.
-fn add_sites(to: &mut Items<Pos>, sites: &[Site]) -> Result<(), NoMemory>
+fn add_sites(to: &mut Items<Pos>, sites: &[Site]) -> Result<(), Failure>
     ensures { OnOk result (to.new ≡ to.old ++ map (λ site. site.pos) sites.now) }
 {
     for site in sites {
@@ -113,14 +103,14 @@ fn add_sites(to: &mut Items<Pos>, sites: &[Site]) -> Result<(), NoMemory>
     Ok(())
 }
 
-/// The module of these bytes, where they spell one that can be run and is confined, with so many KiB of room.
-fn tried(
+/// The module of these bytes, where they spell one that can be run and is confined, with this room in KiB.
+pub(crate) fn tried(
     alloc: Global,
     bytes: Vec<u8>,
     room: u32,
     positions: Items<Pos>,
     sites: Items<Pos>,
-) -> Result<BuiltModule, NoMemory>
+) -> Result<BuiltModule, Failure>
     requires { length bytes.items < 4294967295 }
     ensures tried { IfOk result IsVerified }
     ensures confined { IfOk result (λ built. IsConfined room built.«module») }
@@ -134,6 +124,10 @@ fn tried(
             positions,
             sites,
         }),
-        _ => Err(NoMemory),
+        Ok(_) => broken(Invariant::ModuleNotConfined),
+        Err(Answer::NoMemory) => Err(Failure::NoMemory),
+        Err(Answer::Unlinked(_)) => broken(Invariant::ModuleUnlinked),
+        Err(Answer::Segment) => broken(Invariant::SegmentsDontFit),
+        Err(_) => broken(Invariant::ModuleInvalid),
     }
 }

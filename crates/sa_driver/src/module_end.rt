@@ -1,22 +1,23 @@
-//! What is said of a module that `exec` doesn't run, or that ended by itself.
+//! The explanation for a module that `exec` doesn't run, or that ended by itself.
 
 use crate::cause::Cause;
 use crate::function::say_function;
 use crate::malformed::malformed;
 use crate::unlinked::unlinked;
-use sa_ast::{FaultKind, NoMemory};
+use failure::Failure;
+use sa_ast::FaultKind;
 use sa_diagnostics::{MessagePart, Sentences};
 use std::alloc::{AllocError, Global};
 use wa_syntax::TrapKind;
 
-/// What a cause means that a module of these bytes ended with, in this function where it is known; nothing where no module has such an
-/// end.
+/// The explanation of a cause with which a module of these bytes ended, in this function where it is known; nothing for a cause that is
+/// never the end of a module.
 pub fn module_end(
     alloc: Global,
     module: &[u8],
     cause: Cause,
     func: Option<usize>,
-) -> Result<Vec<u8>, NoMemory> {
+) -> Result<Vec<u8>, Failure> {
     let mut said = Sentences::new(alloc);
     match cause {
         Cause::Malformed => malformed(module, &mut said)?,
@@ -74,7 +75,7 @@ fn trap(kind: TrapKind, said: &mut Sentences) -> Result<(), AllocError> {
     })
 }
 
-/// A module that has called `env.stop` with this code.
+/// A sentence on a module that called `env.stop` with this code.
 fn stopped(code: u32, said: &mut Sentences) -> Result<(), AllocError> {
     match FaultKind::of_number(code) {
         Some(kind) => said.say(&[

@@ -8,25 +8,26 @@ use sa_ast::{Refusal, Sources};
 use sa_trace::ErrStatus;
 use std::alloc::Global;
 
-/// How a command ended, and what is reported of it.
+/// How a command ended, and what is reported of that.
 #[derive(Drop)]
 pub struct Outcome<'a> {
     pub cause: Cause,
     /// The status where the cause is `Done`.
     pub done: u8,
-    /// The texts that the cause's position is in.
+    /// The texts that contain the cause's position.
     pub sources: Sources,
     /// The name of the module's or the listing's file, where the command reads one.
     pub file: &'a str,
     /// The bytes of the module that was encoded, or that was read to be run.
     pub module: Vec<u8>,
-    /// The lines of further refusals, behind that of the cause.
+    /// The lines of further refusals, after that of the cause.
     pub further: Vec<u8>,
     /// These refusals, in the order of their lines.
     pub refusals: Vec<Refusal>,
     /// How many steps the machine made, where they are to be shown.
     pub steps: Option<u64>,
-    /// The function of the module whose instruction ended its run by a trap or a call that is too deep, where one did.
+    /// The index of the function of the module whose instruction ended its run by a trap or by a call that is nested too deep, where one
+    /// did.
     pub func: Option<usize>,
     /// Whether err has taken all lines of the trace, where there is one.
     pub listening: ErrStatus,
@@ -63,7 +64,7 @@ impl<'a> Outcome<'a> {
         }
     }
 
-    /// The outcome of a command that has made and read no module.
+    /// The outcome of a command that has neither made nor read a module.
     pub fn without_module(alloc: Global, cause: Cause, sources: Sources) -> Outcome<'a>
         ensures cause { result.cause ≡ cause }
         ensures done { result.done ≡ 0 }

@@ -1,4 +1,4 @@
-//! Whether a place is in the texts of a program.
+//! Whether a position is in the texts of a program.
 
 ghost use Rattle.std.specs.Prelude.{◌↔◌, IsTrue};
 ghost use Rattle.sa_driver.specs.Files.{IsPlaceIn};
@@ -7,7 +7,7 @@ ghost use Rattle.sa_driver.specs.Lines.{IsInText};
 use sa_ast::Pos;
 use sqlite_items::Items;
 
-/// Whether a place is in one of these texts, or at its end, and the lines of that text can be counted.
+/// Whether a position is in one of these texts, or at its end, and the lines of that text can be counted.
 pub fn is_place_in(texts: &[Items<u8>], pos: Pos) -> bool
     ensures { IsTrue result ↔ (IsPlaceIn texts.now pos × IsInText texts.now pos) }
 {

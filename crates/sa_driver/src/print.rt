@@ -10,13 +10,14 @@ ghost use Rattle.sa_driver.specs.Lines.{IsPlaced};
 ghost use Rattle.sa_driver.specs.HostParts.{part};
 
 use crate::cause::Cause;
-use crate::compile::no_sources;
+use crate::compiler::no_sources;
 use crate::outcome::Outcome;
+use failure::NoMemory;
 use host_io::{Outage, Sink};
-use sa_gen::{NoMemory, generate};
+use sa_gen::generate;
 use std::alloc::Global;
 
-/// Puts the text of the generated program of so many classes on out.
+/// Puts the text of the generated program of this many classes on out.
 pub fn print_generated<'a, O: Sink>(alloc: Global, classes: u32, out: &mut O) -> Outcome<'a>
     ensures does { IsGenerated (part O.output O.faults out.old out.new) classes result }
     ensures placed { IsPlaced result.sources result.cause }
@@ -32,7 +33,7 @@ pub fn print_generated<'a, O: Sink>(alloc: Global, classes: u32, out: &mut O) ->
     Outcome::without_module(alloc, cause, no_sources(alloc))
 }
 
-/// The cause after the text of the generated program was put on out, or wasn't.
+/// The cause after putting the text of the generated program on out; `Done` where out took it.
 fn generate_on<O: Sink>(alloc: Global, classes: u32, out: &mut O) -> Cause
     ensures printed { IsPrinted (part O.output O.faults out.old out.new) (generated classes) result }
     ensures output { Grew (O.output out.old) (O.output out.new) }
@@ -44,7 +45,7 @@ fn generate_on<O: Sink>(alloc: Global, classes: u32, out: &mut O) -> Cause
     }
 }
 
-/// The cause after these bytes were put on out, or weren't.
+/// The cause after putting these bytes on out; `Done` where out took them.
 pub fn print<O: Sink>(bytes: &[u8], out: &mut O) -> Cause
     ensures printed { IsPrinted (part O.output O.faults out.old out.new) bytes.now result }
     ensures output { Grew (O.output out.old) (O.output out.new) }

@@ -13,8 +13,8 @@ use host_io::{Outage, Sink};
 use sa_trace::ErrStatus;
 use std::alloc::{AllocError, Global};
 
-/// Puts the lines of an outcome on err, if it still listens, and gives the cause that stands then: out of memory in its place where err
-/// has no memory or the lines can't be made. Where err fails the cause stands.
+/// Puts the lines of an outcome on err, if it still listens, and gives the final cause: that of the outcome, but out of memory where err
+/// has no memory or there is none for the lines. Where err fails, the outcome's cause is final.
 pub fn report<E: Sink>(alloc: Global, outcome: &Outcome<'_>, err: &mut E) -> Cause
     requires { IsPlaced outcome.now.sources outcome.now.cause }
     ensures occurs { (result ≡ Cause.NoMemory) ⊎ (result ≡ outcome.now.cause) }
@@ -27,7 +27,7 @@ pub fn report<E: Sink>(alloc: Global, outcome: &Outcome<'_>, err: &mut E) -> Cau
     }
 }
 
-/// Puts the lines of an outcome on err, and gives the cause that stands then.
+/// Puts the lines of an outcome on err, and gives the final cause.
 fn tell_lines<E: Sink>(alloc: Global, outcome: &Outcome<'_>, err: &mut E) -> Cause
     requires { IsPlaced outcome.now.sources outcome.now.cause }
     ensures occurs { (result ≡ Cause.NoMemory) ⊎ (result ≡ outcome.now.cause) }

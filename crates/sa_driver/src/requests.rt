@@ -1,28 +1,28 @@
-//! What words ask to be told of the cause of their end, of which files a fault of the store can be, and how a memory is bounded.
+//! What a command line asks to have reported of the cause of its end, which files a store fault can concern, and the bound of a memory.
 
 ghost use Rattle.std.specs.Prelude.{◌≡◌, map, string_bytes};
 ghost use Rattle.sa_cli.specs.Line.{detail_of, detail_without_command, line_of};
 
 use sa_cli::{Command, Contracts, Detail, detail_of, detail_without_command};
 
-/// What is to be told, and of which files.
+/// What is to be reported, and of which files.
 #[derive(Clone, Copy)]
 pub struct Request<'a> {
     pub detail: Detail,
-    /// The words.
+    /// The arguments of the command line.
     pub arguments: &'a [String],
     /// What was done with the contracts of the program, where one was run.
     pub contracts: Contracts,
-    /// The name of the file that the command reads, where it reads one.
+    /// The name of the file that the command reads, where it reads exactly one and can be asked to explain.
     pub read: Option<&'a str>,
-    /// The name of the file that it writes, where it writes one.
+    /// The name of the file that it writes, where it writes exactly one and can be asked to explain.
     pub written: Option<&'a str>,
-    /// How many pages the memory of a module may have, where it bounds that.
+    /// How many pages the memory of a module may have at most, where the command bounds that.
     pub pages: Option<u32>,
 }
 
 impl<'a> Request<'a> {
-    /// So much is to be told of words that give no command.
+    /// A request with this detail, for arguments that form no command.
     fn of_detail(words: &'a [String], detail: Detail) -> Request<'a>
         ensures { result.detail ≡ detail }
     {
@@ -36,21 +36,21 @@ impl<'a> Request<'a> {
         }
     }
 
-    /// The line of the cause alone.
+    /// A request for the line of the cause alone.
     pub fn brief(words: &'a [String]) -> Request<'a>
         ensures { result.detail ≡ Detail.Brief }
     {
         Request::of_detail(words, Detail::Brief)
     }
 
-    /// What words that are no command ask for.
+    /// The request of arguments that form no command.
     pub fn of_arguments(words: &'a [String]) -> Request<'a>
         ensures { result.detail ≡ detail_without_command (map string_bytes words.now) }
     {
         Request::of_detail(words, detail_without_command(words))
     }
 
-    /// What the words ask for that are this command.
+    /// The request of the arguments that form this command.
     pub fn of_command(words: &'a [String], command: &Command<'a>) -> Request<'a>
         ensures { result.detail ≡ detail_of (line_of command.now) }
     {
@@ -73,18 +73,19 @@ fn contracts_of(command: &Command<'_>) -> Contracts {
     }
 }
 
-/// The file that a command reads, where it reads one.
+/// The file that a command reads, where it reads exactly one and can be asked to explain.
 fn read_by<'a>(command: &Command<'a>) -> Option<&'a str> {
     match command {
         Command::Run(line) => only(line.files.as_slice()),
         Command::Build(line) => only(line.files.as_slice()),
         Command::Check(line) => only(line.files.as_slice()),
+        Command::Dump(line) => only(line.files.as_slice()),
         Command::Exec(line) => Some(line.module),
         _ => None,
     }
 }
 
-/// The file that a command writes, where it writes one alone and can be asked to explain.
+/// The file that a command writes, where it writes exactly one and can be asked to explain.
 fn written_by<'a>(command: &Command<'a>) -> Option<&'a str> {
     match command {
         Command::Build(line) => match line.sites {
@@ -95,7 +96,7 @@ fn written_by<'a>(command: &Command<'a>) -> Option<&'a str> {
     }
 }
 
-/// How many pages the memory of a module may have, where a command bounds that.
+/// How many pages the memory of a module may have at most, where a command bounds that.
 fn pages_of(command: &Command<'_>) -> Option<u32> {
     match command {
         Command::Exec(line) => line.pages,
@@ -103,7 +104,7 @@ fn pages_of(command: &Command<'_>) -> Option<u32> {
     }
 }
 
-/// The name of a file that is the only one.
+/// The name of a file, if it is the only one.
 fn only<'a>(files: &[&'a str]) -> Option<&'a str> {
     match files {
         [file] => Some(*file),

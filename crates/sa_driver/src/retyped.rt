@@ -1,15 +1,15 @@
-//! The typed tree of a program once more, where what is told of a fault needs it. It was let go when the module was made.
+//! The typed AST of a program once more, for the explanations of faults that need it. It was dropped when the module was made.
 
 ghost use Rattle.std.specs.Prelude.{◌↔◌, ◌<◌, All, IsTrue, length};
 
-use crate::compile::typed;
+use crate::compiler::typed;
 use sa_ast::Sources;
 use sa_cli::{Contracts, Extent};
 use sa_typed::TypedProgram;
 use sqlite_items::Items;
 use std::alloc::Global;
 
-/// The typed tree of a program of these texts, with or without the checks of its contracts. Nothing where there is none, or no memory.
+/// The typed AST of a program of these texts, with or without the checks of its contracts. Nothing where there is none, or no memory.
 pub fn typed_again(alloc: Global, sources: &Sources, contracts: Contracts) -> Option<TypedProgram> {
     let texts = sources.texts.as_slice();
     if !are_short(texts) || texts.len() >= u32::MAX as usize {
@@ -20,7 +20,7 @@ pub fn typed_again(alloc: Global, sources: &Sources, contracts: Contracts) -> Op
 }
 
 /// Whether the lines of each text can be counted.
-fn are_short(texts: &[Items<u8>]) -> bool
+pub(crate) fn are_short(texts: &[Items<u8>]) -> bool
     ensures { IsTrue result ↔ All (λ text. length text < 4294967295) texts.now }
 {
     texts.iter().all(|text| is_short(text))

@@ -4,7 +4,7 @@ ghost use Rattle.std.specs.Prelude.{◌≡◌, ◌&&◌, ℕ, [], is_some, map};
 ghost use Rattle.host_io.specs.Output.{Grew};
 ghost use Rattle.sa_correctness.specs.Confined.{IsConfined};
 ghost use Rattle.sa_ast.specs.declared.pos.Sources.{Sources as Places};
-ghost use Rattle.wa_run.specs.declared.module_run.RunResult.{Run as Runs};
+ghost use Rattle.wa_run.specs.declared.module_run.RunResult.{RunResult as Runs};
 ghost use Rattle.wa_syntax.specs.ValidModule.{IsValid};
 ghost use Rattle.sa_trace.specs.declared.sinks.ErrStatus.TheVariants as listening;
 ghost use Rattle.sa_driver.specs.Answer.{IsRun, has_steps};
@@ -15,11 +15,12 @@ ghost use Rattle.sa_driver.specs.Runs.{IsRunOfModule, RanBuilt, ended_of};
 ghost use Rattle.sa_driver.specs.HostParts.{part};
 
 use crate::cause::Cause;
-use crate::compile::{CompileResult, compile_files};
+use crate::compiler::{CompileResult, compile_files};
 use crate::exec::{RunEnd, cause_of, done_of};
 use crate::module::BuiltModule;
 use crate::outcome::Outcome;
 use crate::place::is_place_in;
+use failure::Invariant;
 use host_io::{ReadFiles, Sink, Source};
 use sa_ast::{FaultKind, Pos, Sources};
 use sa_cli::{Run, Trace};
@@ -118,8 +119,7 @@ fn run_valid<I: Source, O: Sink>(
     }
 }
 
-/// The cause of a program whose module ended with this one: where the module stopped, the fault at the position whose number
-/// it gave.
+/// The cause for a program whose module ended with this one: where the module stopped, the fault at the position whose index it gave.
 pub fn at_place(cause: Cause, positions: &[Pos], sources: &Sources) -> Cause
     ensures of_module { IsOfModule positions.now sources.now cause result }
     ensures placed { IsPlaced sources.now cause → IsPlaced sources.now result }
@@ -132,20 +132,20 @@ pub fn at_place(cause: Cause, positions: &[Pos], sources: &Sources) -> Cause
 }
 
 /// The fault of this kind at the position with this number. A stop that names no kind of a fault or no position of the
-/// program, which no module of a program makes, is answered as out of memory.
+/// program, which no module of a program makes, is an internal error.
 fn fault_at(code: u32, place: u32, positions: &[Pos], sources: &Sources) -> Cause
     ensures of_module { IsOfModule positions.now sources.now (Cause.Stopped code place) result }
     ensures placed { IsPlaced sources.now result }
     ensures later { ComesBeforeOutput result → ⊥ }
 {
     let Some(kind) = FaultKind::of_number(code) else {
-        return Cause::NoMemory;
+        return Cause::Broken(Invariant::PositionMissing);
     };
     let Some(pos) = positions.get(place as usize) else {
-        return Cause::NoMemory;
+        return Cause::Broken(Invariant::PositionMissing);
     };
     if !is_place_in(sources.texts.as_slice(), *pos) {
-        return Cause::NoMemory;
+        return Cause::Broken(Invariant::PositionMissing);
     }
     Cause::Fault(kind, *pos)
 }

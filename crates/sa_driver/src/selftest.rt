@@ -1,4 +1,4 @@
-//! The command `selftest`: a generated program is compiled and run, and what came of it is printed.
+//! The command `selftest`: a generated program is compiled and run, and its result is printed.
 
 ghost use Rattle.std.specs.Prelude.{◌≡◌, [], IfOk, false, is_some};
 ghost use Rattle.host_io.specs.Output.{Grew};
@@ -12,7 +12,7 @@ ghost use Rattle.sa_driver.specs.Lines.{IsPlaced, selftest_line};
 ghost use Rattle.sa_driver.specs.HostParts.{part};
 
 use crate::cause::Cause;
-use crate::compile::{CompileResult, compile_generated};
+use crate::compiler::{CompileResult, compile_generated};
 use crate::module::BuiltModule;
 use crate::outcome::Outcome;
 use crate::print::print;
@@ -22,8 +22,8 @@ use sa_ast::Sources;
 use sa_gen::add_numbered;
 use std::alloc::{AllocError, Global};
 
-/// Compiles and runs the generated program of so many classes. Where it ends, the number of bytes that it put out and its
-/// status are printed on out; what it put out isn't.
+/// Compiles and runs the generated program of this many classes. Where it ends, the number of bytes of its output and its status are
+/// printed on out; its output isn't.
 pub fn selftest<'a, O: Sink>(alloc: Global, classes: u32, out: &mut O) -> Outcome<'a>
     ensures does { IsTested (part O.output O.faults out.old out.new) classes result }
     ensures placed { IsPlaced result.sources result.cause }
@@ -42,7 +42,7 @@ pub fn selftest<'a, O: Sink>(alloc: Global, classes: u32, out: &mut O) -> Outcom
     }
 }
 
-/// Runs the module of the generated program with an empty input and an output of its own, and prints on out what came of it.
+/// Runs the module of the generated program with an empty input and an output of its own, and prints its result on out.
 fn run_apart<'a, O: Sink>(
     alloc: Global,
     classes: u32,
@@ -85,7 +85,7 @@ fn run_apart<'a, O: Sink>(
     }
 }
 
-/// The cause after the line of a selftest was put on out, or wasn't.
+/// The cause after putting the line of a selftest on out; `Done` where out took it.
 fn tell<O: Sink>(alloc: Global, classes: u32, bytes: u64, status: u8, out: &mut O) -> Cause
     ensures printed { IsPrinted (part O.output O.faults out.old out.new) (selftest_line classes bytes status) result }
     ensures output { Grew (O.output out.old) (O.output out.new) }

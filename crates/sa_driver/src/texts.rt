@@ -1,7 +1,7 @@
 //! The commands that print a text of the program's own: `help`, `version`, `explain` and `lib`.
 
 ghost use Rattle.std.specs.Prelude.{◌≡◌, [], None, option_map};
-ghost use Rattle.sa_help.specs.Texts.{help_text, version_text};
+ghost use Rattle.sa_cli.specs.Texts.{help_text, version_text};
 ghost use Rattle.host_io.specs.Output.{Grew};
 ghost use Rattle.sa_texts.specs.Pages.{error_page, library_file, library_list};
 ghost use Rattle.sa_trace.specs.declared.sinks.ErrStatus.TheVariants as listening;
@@ -11,12 +11,11 @@ ghost use Rattle.sa_driver.specs.Lines.{IsPlaced};
 ghost use Rattle.sa_driver.specs.HostParts.{part};
 
 use crate::cause::Cause;
-use crate::compile::no_sources;
+use crate::compiler::no_sources;
 use crate::outcome::Outcome;
 use crate::print::print;
 use host_io::Sink;
-use sa_cli::Topic;
-use sa_help::{help_text, version_text};
+use sa_cli::{Topic, help_text, version_text};
 use sa_texts::{error_page, library_file, library_list};
 use std::alloc::Global;
 

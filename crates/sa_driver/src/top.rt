@@ -1,4 +1,4 @@
-//! The top call.
+//! The top call of the driver.
 
 ghost use Rattle.std.specs.Prelude.{◌≡◌, ◌≢◌, ◌⊎◌, ◌&&◌, [], None, Some, is_some, map, string_bytes};
 ghost use Rattle.host_io.specs.Output.{Grew};
@@ -18,7 +18,8 @@ use crate::assemble::assemble;
 use crate::build::build;
 use crate::cause::{Cause, Exit};
 use crate::check::check;
-use crate::compile::no_sources;
+use crate::compiler::no_sources;
+use crate::dump::dump;
 use crate::exec::exec;
 use crate::explained::report_more;
 use crate::listing::listing;
@@ -35,7 +36,7 @@ use sa_cli::{ArgsError, Command, Trace, command_of};
 use sqlite_items::Items;
 use std::alloc::Global;
 
-/// Does what the words of a command line, without the program's name, ask for.
+/// Does what the arguments of a command line, without the program's name, ask for.
 pub fn sather<S: WriteFiles, I: Source, O: Sink, E: Sink>(
     alloc: Global,
     words: &[String],
@@ -44,10 +45,10 @@ pub fn sather<S: WriteFiles, I: Source, O: Sink, E: Sink>(
     out: &mut O,
     err: &mut E,
 ) -> Exit
-    // What the words ask for was done with an outcome, by the definition of each command, up to some state of err. Wherever a program
-    // has a module there is a typed tree that is well typed and never gets stuck, and whose positions the module's numbers name. The
-    // exit has the outcome's cause, or out of memory, its status and its module, and from there on err took its lines, and behind
-    // them an explanation where the words ask for one.
+    // What the arguments ask for was done with an outcome, by the definition of each command, up to some state of err. Wherever a program
+    // has a module there is a typed AST that is well typed and never gets stuck, and whose positions the module's numbers name. The exit
+    // has the outcome's cause, or out of memory, its status and its module, and from there on err took its lines, and after them an
+    // explanation where the arguments ask for one.
     ensures answer { (outcome : Outcomes) × (middle : Taken) × (reported : Taken) ×
         Obeys (host_state (part S.files S.faults store.old store.new) (part I.input I.faults input.old input.new)
         (part O.output O.faults out.old out.new) (between (sink (E.output err.old) (E.faults err.old)) middle))
@@ -60,13 +61,13 @@ pub fn sather<S: WriteFiles, I: Source, O: Sink, E: Sink>(
     ensures input { RunsNone (line_in (map string_bytes words.now)) → input.new ≡ input.old }
     ensures done { RunsNone (line_in (map string_bytes words.now)) → result.cause ≡ Cause.Done → result.status ≡ 0 }
 
-    // `build` and `assemble` alone write to the store, and no other part of the outside is touched by a command that has
-    // nothing to do with it.
+    // `build` and `assemble` alone write to the store, and no other part of the host is touched by a command that has nothing to do with
+    // it.
     ensures files { WritesNone (line_in (map string_bytes words.now)) → S.files store.new ≡ S.files store.old }
     ensures store { ReadsNone (line_in (map string_bytes words.now)) → store.new ≡ store.old }
     ensures silent { PrintsNone (line_in (map string_bytes words.now)) → out.new ≡ out.old }
 
-    // What out has is after what it had. Where the cause stands before any output, nothing is put on out or taken from the input.
+    // What out has is after what it had. Where the cause arises before any output, nothing is put on out or taken from the input.
     ensures output { Grew (O.output out.old) (O.output out.new) }
     ensures untouched { ComesBeforeOutput result.cause → (out.new ≡ out.old) × (input.new ≡ input.old) }
 {
@@ -84,14 +85,14 @@ pub fn sather<S: WriteFiles, I: Source, O: Sink, E: Sink>(
     }
 }
 
-/// What came of the words, and what is to be told of it.
+/// The outcome for the arguments, and what is to be reported of it.
 #[derive(Drop)]
 struct CommandResult<'a> {
     outcome: Outcome<'a>,
     asked: Request<'a>,
 }
 
-/// Does what the words ask for, but for the lines on err.
+/// Does what the arguments ask for, but for the lines on err.
 fn obey<'a, S: WriteFiles, I: Source, O: Sink, E: Sink>(
     alloc: Global,
     words: &'a [String],
@@ -166,6 +167,7 @@ fn do_command<'a, S: WriteFiles, I: Source, O: Sink, E: Sink>(
         Command::Selftest(classes) => selftest(alloc, classes, out),
         Command::Listing(line) => listing(alloc, &line, store, out),
         Command::Assemble(line) => assemble(alloc, &line, store),
+        Command::Dump(line) => dump(alloc, &line, store, out),
         Command::Help(topic) => help(alloc, topic, out),
         Command::Version => version(alloc, out),
         Command::Explain(word) => explain(alloc, word, out),
@@ -173,7 +175,7 @@ fn do_command<'a, S: WriteFiles, I: Source, O: Sink, E: Sink>(
     }
 }
 
-/// What comes of words that give no command, for this cause, of which so much is to be told.
+/// The result for arguments that form no command, with this cause, of which this is to be reported.
 fn without_command<'a>(alloc: Global, asked: Request<'a>, cause: Cause) -> CommandResult<'a>
     ensures cause { result.outcome.cause ≡ cause }
     ensures detail { result.asked.detail ≡ asked.entry.detail }

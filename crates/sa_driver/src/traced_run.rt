@@ -10,7 +10,7 @@ ghost use Rattle.sa_driver.specs.Lines.{IsPlaced};
 ghost use Rattle.sa_driver.specs.Runs.{RanTraced};
 ghost use Rattle.sa_driver.specs.HostParts.{host_state, part};
 
-use crate::compile::{CompileResult, compile_files};
+use crate::compiler::{CompileResult, compile_files};
 use crate::exec::{RunEnd, cause_of, done_of};
 use crate::module::BuiltModule;
 use crate::outcome::Outcome;
@@ -21,7 +21,7 @@ use sa_cli::{Run, Trace};
 use sa_trace_run::run_traced;
 use std::alloc::Global;
 
-/// Compiles the program and runs its traced module. Err takes the lines of what becomes of the instances of its iters.
+/// Compiles the program and runs its traced module. Err takes a line for each event of the instances of its iters.
 pub fn run_with_trace<'a, S: ReadFiles, I: Source, O: Sink, E: Sink>(
     alloc: Global,
     line: &Run<'a>,

@@ -1,18 +1,19 @@
-//! What is said of a module that isn't linked: an import that can't be given, with its type, or no `main`.
+//! The explanation for a module that isn't linked: an import that can't be given, with its type, or no `main`.
 
 use crate::decoded_module::decoded_module;
-use sa_ast::NoMemory;
+use failure::Failure;
 use sa_diagnostics::{MessagePart, Sentences};
 use std::alloc::{AllocError, Global};
 use wa_syntax::{Import, ImportKind, Module, ValTy};
 
-/// What is said of a module whose import with a number can't be given, or which has no `main` to call, where there is no such import.
+/// The explanation for a module whose import with this index can't be given, or, where there is no such import, which has no `main` to
+/// call.
 pub fn unlinked(
     alloc: Global,
     bytes: &[u8],
     number: u32,
     said: &mut Sentences,
-) -> Result<(), NoMemory> {
+) -> Result<(), Failure> {
     let Some(module) = decoded_module(alloc, bytes)? else {
         return Ok(());
     };
@@ -28,7 +29,7 @@ fn not_given(
     module: &Module,
     import: &Import,
     said: &mut Sentences,
-) -> Result<(), NoMemory> {
+) -> Result<(), Failure> {
     let mut parts = Vec::new(alloc);
     parts.push(MessagePart::Words("`exec` can't give the import `"))?;
     parts.push(MessagePart::Plain(import.module.as_slice()))?;
@@ -44,7 +45,7 @@ fn not_given(
     Ok(())
 }
 
-/// Adds what is imported, with its type.
+/// Adds the kind of an import, with its type.
 fn put_kind(
     parts: &mut Vec<MessagePart<'_>>,
     module: &Module,

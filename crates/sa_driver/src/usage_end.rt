@@ -1,13 +1,12 @@
-//! What is said of words that begin with the name of a command and are none.
+//! The explanation for arguments that begin with the name of a command and form none.
 
-use sa_ast::NoMemory;
-use sa_cli::{Mistake, Needs, mistake_in, topic_named};
+use failure::Failure;
+use sa_cli::{Mistake, Needs, help_text, mistake_in, topic_named};
 use sa_diagnostics::{MessagePart, Sentences};
-use sa_help::help_text;
 use std::alloc::{AllocError, Global};
 
-/// What is wrong with words that are no command, and what to type.
-pub fn usage_end(alloc: Global, words: &[String]) -> Result<Vec<u8>, NoMemory> {
+/// Explains what is wrong with arguments that form no command, and what to type.
+pub fn usage_end(alloc: Global, words: &[String]) -> Result<Vec<u8>, Failure> {
     let mut said = Sentences::new(alloc);
     if let Some(name) = words.first() {
         let name = name.as_str();
@@ -17,7 +16,7 @@ pub fn usage_end(alloc: Global, words: &[String]) -> Result<Vec<u8>, NoMemory> {
     Ok(said.text)
 }
 
-/// What is wrong.
+/// A sentence on what is wrong.
 fn say_mistake(
     alloc: Global,
     command: &str,
@@ -76,7 +75,7 @@ fn say_mistake(
     }
 }
 
-/// What is wrong with the names of files.
+/// A sentence on what is wrong with the names of files.
 fn about_files(
     command: &str,
     mistake: &Mistake<'_>,
@@ -111,6 +110,9 @@ fn about_files(
             ])?;
             said.say_words("Write the sites to a file of their own.")
         }
+        Mistake::NotOneForm => said.say_words(
+            "One of `--ast`, `--typed`, `--cfg` and `--regions` is wanted, and no second one.",
+        ),
         _ => said.say(&[
             MessagePart::Words("The words behind "),
             MessagePart::Code(command.as_bytes()),
@@ -119,7 +121,7 @@ fn about_files(
     }
 }
 
-/// A sentence about a word and a command.
+/// A sentence about an argument and a command.
 fn about<'a>(
     word: &'a str,
     is: &'a str,
@@ -144,7 +146,7 @@ fn about_option<'a>(
     said.say(&[MessagePart::Code(option.as_bytes()), MessagePart::Words(is)])
 }
 
-/// An option that a command hasn't got, and these commands have.
+/// A sentence on an option that this command doesn't have, and which commands have it.
 fn unknown_option<'a>(
     alloc: Global,
     command: &'a str,
@@ -170,7 +172,7 @@ fn unknown_option<'a>(
     said.say(parts.as_slice())
 }
 
-/// The option that is nearly the one that was given, where there is one.
+/// A sentence on the option that is nearly the one that was given, where there is one.
 fn did_you_mean(near: &Option<String>, said: &mut Sentences) -> Result<(), AllocError> {
     match near {
         Some(option) => said.say(&[
@@ -182,7 +184,7 @@ fn did_you_mean(near: &Option<String>, said: &mut Sentences) -> Result<(), Alloc
     }
 }
 
-/// What may have been meant by a word behind one dash that is no option.
+/// A sentence on what may have been meant by an argument that begins with one dash and is no option.
 fn behind_one_dash(option: &[u8], said: &mut Sentences) -> Result<(), AllocError> {
     match option {
         [b'-', b'-', ..] | [b'-', b'o'] => Ok(()),
@@ -193,7 +195,7 @@ fn behind_one_dash(option: &[u8], said: &mut Sentences) -> Result<(), AllocError
     }
 }
 
-/// What isn't there.
+/// A sentence on what is missing.
 fn missing(command: &str, needs: Needs, said: &mut Sentences) -> Result<(), AllocError> {
     if needs.out {
         said.say_words("`-o OUT`, the file to which the module is written, is missing.")?;
@@ -208,7 +210,7 @@ fn missing(command: &str, needs: Needs, said: &mut Sentences) -> Result<(), Allo
     Ok(())
 }
 
-/// What to type: the command as its help has it.
+/// A sentence on what to type: the command as its help has it.
 fn say_form(command: &str, said: &mut Sentences) -> Result<(), AllocError> {
     let Some(topic) = topic_named(command) else {
         return Ok(());

@@ -15,7 +15,7 @@ is_made body before after func right all = made (added (IsFunctionOf body) befor
 pub none_made : (body : CfgBody) (before after : List Func) → after ≡ before → IsEmitted before body after
 none_made body before after same = left_out same
 
--- what the bodies from a place on add to the functions so far is all that is left to add
+-- what the bodies from an index on add to the functions so far is all that is left to add
 pub record Leads (old : List Func) (bodies : List CfgBody) (i : ℕ) (funcs : List Func) : Type 0 where
   pub to : (last : List Func) → FoldsTo IsEmitted funcs (drop i bodies) last → FoldsTo IsEmitted old bodies last
 

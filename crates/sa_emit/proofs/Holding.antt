@@ -1,4 +1,4 @@
--- What a search for a `br_table` or a suspension has found, from a place of a list on.
+-- What a search for a `br_table` or a suspension has found, from an index of a list on.
 use Rattle.std.proofs.Common.{◌≡◌, ℕ, ◌+◌, ◌<◌, ◌||◌, Bool, true, false, List, [], ◌∷◌, length, get_or, drop, refl, add-one, drop-cons}
 use Rattle.std.proofs.Math.Seq.{drop-length}
 use Rattle.std.specs.Prelude.{if◌then◌else◌, ◌==◌}

@@ -1,5 +1,5 @@
--- Which functions of a module hold a `br_table`: none of the runtime's, not `main`, and none of a body that has at most 150 blocks and
--- doesn't go on behind a suspension.
+-- Which functions of a module contain a `br_table`: none of the runtime's, not `main`, and none of a body that has at most 150 blocks and
+-- doesn't resume after a suspension.
 use Rattle.std.specs.Prelude.{◌≡◌, ◌≤◌, Bool, true, false, ◌||◌, List, [], ◌∷◌, ◌++◌, length, is_some}
 use Rattle.std.specs.List.{FoldsTo}
 use Rattle.sa_cfg.specs.declared.body.BasicBlock.{BasicBlock}
@@ -37,12 +37,12 @@ have_table (func ∷ rest) = has_table func || have_table rest
 
 -- ---- bodies
 
--- the body goes on in a block behind this exit once it is resumed
+-- the body continues in a block after this terminator once it is resumed
 abbrev pub is_resumed : Terminator → Bool
 is_resumed (Suspend value resume) = is_some resume
 is_resumed _ = false
 
--- it does behind one of some blocks
+-- it does after one of some blocks
 abbrev pub are_resumed : List BasicBlock → Bool
 are_resumed [] = false
 are_resumed (block ∷ rest) = is_resumed block.exit || are_resumed rest
@@ -51,7 +51,7 @@ are_resumed (block ∷ rest) = is_resumed block.exit || are_resumed rest
 abbrev pub IsPlain : CfgBody → Type 0
 IsPlain body = are_resumed body.blocks ≡ false
 
--- The shape of so few blocks nests at most 300 deep, as deep as shapes do.
+-- The regions of so few blocks nest at most 300 deep, as deep as regions do.
 abbrev pub HasFewBlocks : CfgBody → Type 0
 HasFewBlocks body = length body.blocks ≤ 150
 
@@ -61,7 +61,7 @@ IsFunctionOf body func = IsPlain body → HasFewBlocks body → HoldsNoTable fun
 
 -- ---- modules
 
--- one more function, which is as it should be
+-- one more function, which is right
 pub record IsAdded (IsRight : Func → Type 0) (before after : List Func) : Type 0 where
   pub func : Func
   pub is_right : IsRight func

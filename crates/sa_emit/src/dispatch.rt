@@ -1,21 +1,22 @@
-//! The superblocks of a body behind one another, and the choice between them by the number of the dispatch target in the local
-//! for it: a `br_table` between up to eight, and above such tables `if`s that halve their number.
+//! The superblocks of a body one after the other, and the dispatch between them by the number of the dispatch target in the local for it: a
+//! `br_table` between up to eight, and around such tables `if`s that halve their number.
 
 use crate::steps::Writer;
 use crate::sums::{number, sum};
 use crate::superblock::{emit_repeated_target, emit_target};
-use sa_templates::{EmitContext, held};
+use failure::{Failure, Invariant, known};
+use sa_templates::EmitContext;
 use sqlite_items::Items;
 use std::alloc::Global;
-use wa_syntax::{Instr, NoMemory, opcode};
+use wa_syntax::{Instr, opcode};
 
 /// How many dispatch targets a table is between at most.
 const FAN_OUT: u32 = 8;
 
-/// How many bits of a number tell them apart.
+/// How many bits of a number distinguish them.
 const BITS: u32 = 3;
 
-/// The body whose dispatch targets are placed, and what is around a place of it.
+/// The body whose dispatch targets are placed, and the context of a position in it.
 #[derive(Clone, Copy)]
 pub(crate) struct BlockDispatch<'a> {
     pub around: EmitContext<'a>,
@@ -27,7 +28,7 @@ pub(crate) struct BlockDispatch<'a> {
 
 impl<'a> BlockDispatch<'a> {
     /// So many blocks further in.
-    fn further_in(&self, blocks: u32) -> Result<BlockDispatch<'a>, NoMemory> {
+    fn further_in(&self, blocks: u32) -> Result<BlockDispatch<'a>, Failure> {
         let nesting = self.around.nesting.further_in(blocks)?;
         let around = EmitContext {
             nesting,
@@ -37,13 +38,13 @@ impl<'a> BlockDispatch<'a> {
     }
 }
 
-/// Adds the code of a body whose dispatch targets are jumped to: a loop around the choice between them.
+/// Emits the code of a body whose dispatch targets are jumped to: a loop around the dispatch between them.
 pub(crate) fn emit_loop(
     alloc: Global,
     code: &mut Items<Instr>,
     writer: &mut Writer<'_>,
     dispatch: &BlockDispatch<'_>,
-) -> Result<(), NoMemory> {
+) -> Result<(), Failure> {
     let mut body = Items::new(alloc);
     let level = level_of(dispatch.targets.len());
     emit_dispatch(alloc, &mut body, writer, &dispatch.further_in(1)?, 0, level)?;
@@ -52,8 +53,8 @@ pub(crate) fn emit_loop(
     Ok(())
 }
 
-/// How many `if`s stand at most above a table in the choice between so many dispatch targets: one for each bit that the greatest
-/// number has above those of a table.
+/// How many `if`s are at most around a table in the dispatch between so many dispatch targets: one for each bit that the greatest number
+/// has more than those of a table.
 fn level_of(targets: usize) -> u32 {
     match targets.saturating_sub(1).checked_ilog2() {
         Some(bits) => bits.saturating_add(1).saturating_sub(BITS),
@@ -61,7 +62,7 @@ fn level_of(targets: usize) -> u32 {
     }
 }
 
-/// Adds the choice between the dispatch targets from `first` on, as many as there are and up to `8 * 2^level`, and their code.
+/// Emits the dispatch between the dispatch targets from `first` on, as many as there are and up to `8 * 2^level`, and their code.
 #[cycle(choice)]
 fn emit_dispatch(
     alloc: Global,
@@ -70,7 +71,7 @@ fn emit_dispatch(
     dispatch: &BlockDispatch<'_>,
     first: u32,
     level: u32,
-) -> Result<(), NoMemory> {
+) -> Result<(), Failure> {
     if level == 0 {
         return emit_table(alloc, code, writer, dispatch, first);
     }
@@ -88,32 +89,35 @@ fn emit_dispatch(
     Ok(())
 }
 
-/// How many dispatch targets the first half of a choice of this level has.
-fn half_of(level: u32) -> Result<u32, NoMemory> {
-    let tables = held(2u32.checked_pow(level.saturating_sub(1)))?;
-    held(FAN_OUT.checked_mul(tables))
+/// How many dispatch targets the first half of a dispatch of this level has.
+fn half_of(level: u32) -> Result<u32, Failure> {
+    let tables = known(
+        2u32.checked_pow(level.saturating_sub(1)),
+        Invariant::CfgNumber,
+    )?;
+    known(FAN_OUT.checked_mul(tables), Invariant::CfgNumber)
 }
 
-/// Adds whether the dispatch target in the local for it is before this one.
+/// Emits the test whether the dispatch target in the local for it is before this one.
 fn emit_is_less(
     code: &mut Items<Instr>,
     around: &EmitContext<'_>,
     target: u32,
-) -> Result<(), NoMemory> {
+) -> Result<(), Failure> {
     code.push(Instr::LocalGet(around.block()))?;
     code.push(Instr::I32Const(target))?;
     code.push(Instr::Plain(opcode::I32_LT_U))?;
     Ok(())
 }
 
-/// Adds the table between the dispatch targets from `first` on, up to eight, and their code.
+/// Emits the table of the dispatch targets from `first` on, up to eight, and their code.
 fn emit_table(
     alloc: Global,
     code: &mut Items<Instr>,
     writer: &mut Writer<'_>,
     dispatch: &BlockDispatch<'_>,
     first: u32,
-) -> Result<(), NoMemory> {
+) -> Result<(), Failure> {
     let last = last_behind(dispatch.targets.len(), first)?;
     if last == 0 {
         return emit_superblock(alloc, code, writer, dispatch, first);
@@ -130,34 +134,34 @@ fn emit_table(
     emit_superblock(alloc, code, writer, dispatch, sum(first, last)?)
 }
 
-/// Adds the superblock of a dispatch target.
+/// Emits the superblock of a dispatch target.
 fn emit_superblock(
     alloc: Global,
     code: &mut Items<Instr>,
     writer: &mut Writer<'_>,
     dispatch: &BlockDispatch<'_>,
     target: u32,
-) -> Result<(), NoMemory> {
-    let block = *held(dispatch.targets.get(target as usize))?;
-    if *held(dispatch.repeats.get(target as usize))? {
+) -> Result<(), Failure> {
+    let block = *known(dispatch.targets.get(target as usize), Invariant::CfgNumber)?;
+    if *known(dispatch.repeats.get(target as usize), Invariant::CfgNumber)? {
         return emit_repeated_target(alloc, code, writer, dispatch.around, block);
     }
     emit_target(alloc, code, writer, dispatch.around, block)
 }
 
-/// How many dispatch targets behind `first` stand in the table that begins with it.
-fn last_behind(targets: usize, first: u32) -> Result<u32, NoMemory> {
+/// How many dispatch targets after `first` are in the table that begins with it.
+fn last_behind(targets: usize, first: u32) -> Result<u32, Failure> {
     let following = number(targets)?.saturating_sub(first).saturating_sub(1);
     Ok(following.min(FAN_OUT - 1))
 }
 
-/// The code that goes to the end of the block that the dispatch target in the local for it stands behind, one of those from `first` on.
+/// The code that goes to the end of the block after which the dispatch target in the local for it comes, one of those from `first` on.
 fn choosing(
     alloc: Global,
     around: &EmitContext<'_>,
     first: u32,
     last: u32,
-) -> Result<Items<Instr>, NoMemory> {
+) -> Result<Items<Instr>, Failure> {
     let mut code = Items::new(alloc);
     code.push(Instr::LocalGet(around.block()))?;
     if first > 0 {
@@ -169,7 +173,7 @@ fn choosing(
 }
 
 /// The labels of the dispatch targets of a table before the last.
-fn labels(alloc: Global, last: u32) -> Result<Items<u32>, NoMemory> {
+fn labels(alloc: Global, last: u32) -> Result<Items<u32>, Failure> {
     let mut labels = Items::new(alloc);
     for label in 0..last {
         labels.push(label)?;

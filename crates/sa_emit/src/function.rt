@@ -9,33 +9,33 @@ use crate::predecessors::predecessors_of;
 use crate::resuming::emit_before_dispatch;
 use crate::steps::Writer;
 use crate::structured::emit_structured;
-use crate::sums::held_graph;
 use crate::targets::targets_of;
 use crate::verifier::tried;
+use failure::Failure;
 use sa_cfg::CfgBody;
-use sa_emit_step::emit_suspension;
 use sa_runtime::layout::BODY_TYPE;
 use sa_stackify::{ResultPlace, SaveSet};
 use sa_structure::{StructuredBody, structure_of};
 use sa_templates::{
-    EmitContext, EmitProgram, LabelDepth, Role, emit_prologue, locals_of, parameters_of,
+    EmitContext, EmitProgram, LabelDepth, Role, emit_prologue, emit_suspension, locals_of,
+    parameters_of,
 };
 use sqlite_items::Items;
 use std::alloc::Global;
-use wa_syntax::{Func, Instr, NoMemory};
+use wa_syntax::{Func, Instr};
 
-/// The function of a body, whose first site has this place among all sites of the program. It has the shape of the body where there is
-/// one, and else dispatches between the blocks.
+/// The function of a body, whose first site has this index among all sites of the program. It has the structured regions of the body where
+/// there are any, and else dispatches between the blocks.
 pub(crate) fn function(
     alloc: Global,
     program: EmitProgram<'_>,
     body: &CfgBody,
     role: Role,
     first_site: u32,
-) -> Result<Func, NoMemory>
+) -> Result<Func, Failure>
     ensures { IfOk result (λ func. IsFunctionOf body.now func) }
 {
-    let keeping = held_graph(SaveSet::of(alloc, body))?;
+    let keeping = SaveSet::of(alloc, body)?;
     let around = EmitContext {
         program,
         body,
@@ -50,7 +50,7 @@ pub(crate) fn function(
         keeping: &keeping,
         first_site,
     };
-    let shaped = held_graph(structure_of(alloc, body))?;
+    let shaped = structure_of(alloc, body)?;
     let code = match &shaped {
         Some(shaped) => shaped_code(alloc, &around, shaped)?,
         None => dispatched_code(alloc, &around)?,
@@ -63,12 +63,12 @@ pub(crate) fn function(
     tried(body, shaped.is_some(), func)
 }
 
-/// The code of a body that has a shape.
+/// The code of a body that has structured regions.
 fn shaped_code(
     alloc: Global,
     around: &EmitContext<'_>,
     shaped: &StructuredBody,
-) -> Result<Items<Instr>, NoMemory> {
+) -> Result<Items<Instr>, Failure> {
     let around = EmitContext {
         again: shaped.again.as_slice(),
         numbers: shaped.numbers.as_slice(),
@@ -86,7 +86,7 @@ fn shaped_code(
 }
 
 /// The code of a body that dispatches between its blocks.
-fn dispatched_code(alloc: Global, around: &EmitContext<'_>) -> Result<Items<Instr>, NoMemory> {
+fn dispatched_code(alloc: Global, around: &EmitContext<'_>) -> Result<Items<Instr>, Failure> {
     let predecessors = predecessors_of(alloc, around.body)?;
     let targets = targets_of(alloc, around.body, predecessors.as_slice())?;
     let around = EmitContext {
@@ -110,12 +110,12 @@ fn dispatched_code(alloc: Global, around: &EmitContext<'_>) -> Result<Items<Inst
     Ok(code)
 }
 
-/// The code of a body with what its suspensions go to, where there are several.
+/// The code of a body with the code that its suspensions share, where there are several.
 fn suspending(
     alloc: Global,
     around: &EmitContext<'_>,
     code: Items<Instr>,
-) -> Result<Items<Instr>, NoMemory> {
+) -> Result<Items<Instr>, Failure> {
     let body = around.body;
     let mut whole = Items::new(alloc);
     if !has_frames(body) || around.keeping.suspensions < 2 {

@@ -1,4 +1,4 @@
-//! The functions of a module: behind those of the runtime that of each body that is reached, in order, and `main`.
+//! The functions of a module: after those of the runtime that of each body that is reached, in order, and `main`.
 
 ghost use Rattle.std.specs.List.{FoldsTo};
 ghost use Rattle.std.specs.Prelude.{OnOk};
@@ -9,24 +9,25 @@ use crate::function::function;
 use crate::reachability::Reachable;
 use crate::sums::{number, sum};
 use crate::verifier::{has_table, have_table};
+use failure::{Failure, Invariant, broken};
 use sa_cfg::CfgBody;
 use sa_templates::{EmitProgram, Role};
 use sqlite_items::Items;
 use std::alloc::Global;
-use wa_syntax::{Func, NoMemory};
+use wa_syntax::Func;
 
-/// Adds the functions of the bodies that are reached, and `main`, to those of the runtime.
+/// Appends the functions of the bodies that are reached, and `main`, to those of the runtime.
 #[tactic(auto, using(crate::proofs::Growing::grown))]
 pub(crate) fn emit_functions(
     alloc: Global,
     funcs: &mut Items<Func>,
     program: EmitProgram<'_>,
     reached: &Reachable,
-) -> Result<(), NoMemory>
+) -> Result<(), Failure>
     ensures { OnOk result (AreFunctionsOf program.entry.flat.now.bodies funcs.new) }
 {
     if have_table(funcs.as_slice()) {
-        return Err(NoMemory);
+        return broken(Invariant::DispatchLeft);
     }
     emit_bodies(
         alloc,
@@ -39,7 +40,7 @@ pub(crate) fn emit_functions(
     Ok(())
 }
 
-/// Adds the function of each body that is reached.
+/// Appends the function of each body that is reached.
 #[tactic(auto, using(crate::proofs::Growing::grown))]
 fn emit_bodies(
     alloc: Global,
@@ -47,7 +48,7 @@ fn emit_bodies(
     bodies: &[CfgBody],
     program: EmitProgram<'_>,
     reached: &Reachable,
-) -> Result<(), NoMemory>
+) -> Result<(), Failure>
     ensures { OnOk result (FoldsTo IsEmitted funcs.old bodies.now funcs.new) }
 {
     let mut first_site = 0u32;
@@ -69,7 +70,7 @@ fn role_of(body: &CfgBody, is_last: bool) -> Role {
     }
 }
 
-/// Adds the function of a body, if it is reached. Its first site has this place among all sites of the program.
+/// Appends the function of a body, if it is reached. Its first site has this index among all sites of the program.
 #[tactic(auto, using(crate::proofs::Growing::grown))]
 fn emit_body(
     alloc: Global,
@@ -79,7 +80,7 @@ fn emit_body(
     role: Role,
     is_reached: bool,
     first_site: u32,
-) -> Result<(), NoMemory>
+) -> Result<(), Failure>
     ensures { OnOk result (IsEmitted funcs.old body.now funcs.new) }
 {
     if !is_reached {
@@ -90,25 +91,25 @@ fn emit_body(
     Ok(())
 }
 
-/// Adds `main`.
+/// Appends `main`.
 #[tactic(auto, using(crate::proofs::Growing::grown))]
 fn emit_main(
     alloc: Global,
     funcs: &mut Items<Func>,
     program: EmitProgram<'_>,
-) -> Result<(), NoMemory>
+) -> Result<(), Failure>
     ensures { OnOk result (IsAdded HoldsNoTable funcs.old funcs.new) }
 {
     let main = main_function(alloc, last_function(program)?)?;
     if has_table(&main) {
-        return Err(NoMemory);
+        return broken(Invariant::DispatchLeft);
     }
     funcs.push(main)?;
     Ok(())
 }
 
 /// The function of the last body.
-fn last_function(program: EmitProgram<'_>) -> Result<u32, NoMemory> {
+fn last_function(program: EmitProgram<'_>) -> Result<u32, Failure> {
     let last = program.flat.bodies.len().saturating_sub(1);
     program.function_of(number(last)?)
 }

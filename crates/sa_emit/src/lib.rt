@@ -1,4 +1,4 @@
-//! A flat program into a module of WebAssembly: one function for each body, the runtime's functions beside them, and `main`.
+//! Emits the WebAssembly module of a CFG program: one function for each body, the runtime's functions beside them, and `main`.
 #![tactic(auto)]
 
 mod dispatch;

@@ -12,13 +12,12 @@ use crate::sums::{number, sum};
 use crate::table::{elements, tables};
 use crate::texts::segments;
 use crate::types::{GET_TYPE, PUT_TYPE, STOP_TYPE};
+use failure::Failure;
 use sa_runtime::layout::FIRST_BUILTIN;
 use sa_templates::EmitProgram;
 use sqlite_items::Items;
 use std::alloc::Global;
-use wa_syntax::{
-    Export, ExportKind, Func, FuncTy, Import, ImportKind, Limits, Module, NoMemory, WasmName,
-};
+use wa_syntax::{Export, ExportKind, Func, FuncTy, Import, ImportKind, Limits, Module, WasmName};
 
 /// The module of a program, with the functions of the runtime that it needs, and the types so far.
 pub(crate) fn module(
@@ -29,7 +28,7 @@ pub(crate) fn module(
     places: &Places,
     mut funcs: Items<Func>,
     types: Items<FuncTy>,
-) -> Result<Module, NoMemory>
+) -> Result<Module, Failure>
     ensures { IfOk result (λ made. AreFunctionsOf program.entry.flat.now.bodies made.funcs) }
 {
     emit_functions(alloc, &mut funcs, program, reached)?;
@@ -48,12 +47,12 @@ pub(crate) fn module(
     })
 }
 
-/// For each body the number of its function, behind so many others, if it is reached.
+/// For each body the number of its function, after so many others, if it is reached.
 pub(crate) fn functions_of(
     alloc: Global,
     reached: &Reachable,
     before: usize,
-) -> Result<Items<Option<u32>>, NoMemory> {
+) -> Result<Items<Option<u32>>, Failure> {
     let mut functions = Items::new(alloc);
     let mut next = sum(FIRST_BUILTIN, number(before)?)?;
     for is_reached in reached.bodies.iter() {
@@ -68,7 +67,7 @@ pub(crate) fn functions_of(
 }
 
 /// The host's three functions.
-fn imports(alloc: Global) -> Result<Items<Import>, NoMemory> {
+fn imports(alloc: Global) -> Result<Items<Import>, Failure> {
     let mut imports = Items::new(alloc);
     imports.push(import(alloc, b"put", PUT_TYPE)?)?;
     imports.push(import(alloc, b"get", GET_TYPE)?)?;
@@ -76,7 +75,7 @@ fn imports(alloc: Global) -> Result<Items<Import>, NoMemory> {
     Ok(imports)
 }
 
-fn import(alloc: Global, name: &[u8], ty: u32) -> Result<Import, NoMemory> {
+fn import(alloc: Global, name: &[u8], ty: u32) -> Result<Import, Failure> {
     Ok(Import {
         module: WasmName::from_slice(alloc, b"env")?,
         name: WasmName::from_slice(alloc, name)?,
@@ -84,18 +83,18 @@ fn import(alloc: Global, name: &[u8], ty: u32) -> Result<Import, NoMemory> {
     })
 }
 
-fn memories(alloc: Global, pages: Limits) -> Result<Items<Limits>, NoMemory> {
+fn memories(alloc: Global, pages: Limits) -> Result<Items<Limits>, Failure> {
     Ok(Items::from_slice(alloc, &[pages])?)
 }
 
-fn exports(alloc: Global, main: u32) -> Result<Items<Export>, NoMemory> {
+fn exports(alloc: Global, main: u32) -> Result<Items<Export>, Failure> {
     let mut exports = Items::new(alloc);
     exports.push(export(alloc, b"main", ExportKind::Func(main))?)?;
     exports.push(export(alloc, b"memory", ExportKind::Memory(0))?)?;
     Ok(exports)
 }
 
-fn export(alloc: Global, name: &[u8], kind: ExportKind) -> Result<Export, NoMemory> {
+fn export(alloc: Global, name: &[u8], kind: ExportKind) -> Result<Export, Failure> {
     Ok(Export {
         name: WasmName::from_slice(alloc, name)?,
         kind,

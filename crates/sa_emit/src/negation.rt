@@ -1,16 +1,17 @@
 //! The negation of a truth value of 32 bits that is the operand.
 
+use failure::{Failure, Invariant, broken};
 use sqlite_items::Items;
+use wa_syntax::Instr;
 use wa_syntax::opcode::{
     I32_EQ, I32_EQZ, I32_NE, I64_EQ, I64_GE_S, I64_GE_U, I64_GT_S, I64_LE_S, I64_LT_S, I64_LT_U,
     I64_NE,
 };
-use wa_syntax::{Instr, NoMemory};
 
-/// Adds the negation. Where the last instruction is a comparison, the opposite one stands in its place.
-pub(crate) fn emit_negation(code: &mut Items<Instr>) -> Result<(), NoMemory> {
+/// Emits the negation. Where the last instruction is a comparison, the opposite one replaces it.
+pub(crate) fn emit_negation(code: &mut Items<Instr>) -> Result<(), Failure> {
     let Some(last) = code.pop() else {
-        return Err(NoMemory);
+        return broken(Invariant::CfgNumber);
     };
     if let Some(opposite) = opposite_of(&last) {
         return Ok(code.push(Instr::Plain(opposite))?);

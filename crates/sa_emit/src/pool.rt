@@ -1,11 +1,10 @@
 //! The pool of frames: how large a frame and the pool are.
 
 use crate::sums::{number, sum};
+use failure::{Failure, Invariant, known};
 use sa_cfg::{CfgBody, CfgProgram};
 use sa_runtime::layout::FRAME_WORDS;
 use sa_runtime::trace::{Tracing, traced_words};
-use sa_templates::held;
-use wa_syntax::NoMemory;
 
 /// How many frames the pool has.
 const FRAMES: u64 = 10_000;
@@ -16,14 +15,14 @@ const HEAD: u32 = 8;
 /// The bytes of a word.
 const WORD: u32 = 8;
 
-/// Whether instances of a body have a frame while they are suspended: the body is that of an iter of a class. A body that was
-/// made for an implementation alone has the frame of the one that it enters.
+/// Whether instances of a body have a frame while they are suspended: the body is that of an iter of a class. An adapter has the frame of
+/// the body that it enters.
 pub(crate) fn has_frames(body: &CfgBody) -> bool {
     body.iter && body.feature.is_some()
 }
 
-/// How many words a frame takes, so that it holds what any iter of the program keeps.
-pub(crate) fn slot_words(flat: &CfgProgram, tracing: Tracing) -> Result<u32, NoMemory> {
+/// How many words a frame takes, so that it has room for what any iter of the program saves.
+pub(crate) fn slot_words(flat: &CfgProgram, tracing: Tracing) -> Result<u32, Failure> {
     let mut most = 0;
     for body in flat.bodies.as_slice() {
         most = kept(body).max(most);
@@ -32,7 +31,7 @@ pub(crate) fn slot_words(flat: &CfgProgram, tracing: Tracing) -> Result<u32, NoM
     sum(words, traced_words(tracing))
 }
 
-/// How many variables a frame of this body keeps.
+/// How many variables a frame of this body saves.
 fn kept(body: &CfgBody) -> usize {
     if has_frames(body) {
         return body.saved.len();
@@ -41,8 +40,8 @@ fn kept(body: &CfgBody) -> usize {
 }
 
 /// How many bytes a frame of so many words takes.
-pub(crate) fn slot_bytes(words: u32) -> Result<u32, NoMemory> {
-    held(words.checked_mul(WORD))
+pub(crate) fn slot_bytes(words: u32) -> Result<u32, Failure> {
+    known(words.checked_mul(WORD), Invariant::CfgNumber)
 }
 
 /// How many bytes the pool takes with frames of so many bytes.

@@ -1,12 +1,11 @@
-//! The predecessors of each block of a body, by what leads to it: exits, raises and resumptions, of the blocks alone that can be
+//! The predecessors of each block of a body, by what leads to it: terminators, raises and resumptions, of the blocks alone that can be
 //! reached from the first.
 
+use failure::{Failure, Invariant, broken, known};
 use sa_cfg::{BasicBlock, CfgBody, Handler, Terminator};
 use sa_structure::{leaves, raised_of};
-use sa_templates::held;
 use sqlite_items::Items;
 use std::alloc::Global;
-use wa_syntax::NoMemory;
 
 /// The predecessors of a block, by what leads to it.
 #[derive(Clone, Copy, Debug, PartialEq, Eq)]
@@ -15,9 +14,9 @@ pub(crate) enum Predecessors {
     Unreached,
     /// The body begins in it, and nothing else leads to it.
     Entry,
-    /// One exit.
+    /// One terminator.
     One,
-    /// Several exits, a raise, or a resumption.
+    /// Several terminators, a raise, or a resumption.
     Jumps,
 }
 
@@ -33,13 +32,13 @@ struct AnalysisResult {
 pub(crate) fn predecessors_of(
     alloc: Global,
     body: &CfgBody,
-) -> Result<Items<Predecessors>, NoMemory> {
+) -> Result<Items<Predecessors>, Failure> {
     let mut found = begun(alloc, body)?;
     for _ in 0..body.blocks.len() {
         let Some(number) = found.waiting.pop() else {
             break;
         };
-        let block = held(body.blocks.get(number as usize))?;
+        let block = known(body.blocks.get(number as usize), Invariant::CfgNumber)?;
         found.add_raises(body, block)?;
         found.add_exit(body, &block.exit)?;
     }
@@ -51,7 +50,7 @@ pub(crate) fn predecessors_of(
 }
 
 /// The first block alone is reached.
-fn begun(alloc: Global, body: &CfgBody) -> Result<AnalysisResult, NoMemory> {
+fn begun(alloc: Global, body: &CfgBody) -> Result<AnalysisResult, Failure> {
     let mut predecessors = Items::new(alloc);
     for _ in 0..body.blocks.len() {
         predecessors.push(Predecessors::Unreached)?;
@@ -65,8 +64,8 @@ fn begun(alloc: Global, body: &CfgBody) -> Result<AnalysisResult, NoMemory> {
 }
 
 impl AnalysisResult {
-    /// The places that raises of the steps go to.
-    fn add_raises(&mut self, body: &CfgBody, block: &BasicBlock) -> Result<(), NoMemory> {
+    /// The blocks that raises of the operations go to.
+    fn add_raises(&mut self, body: &CfgBody, block: &BasicBlock) -> Result<(), Failure> {
         for step in block.steps.as_slice() {
             if let Some(raised) = raised_of(step) {
                 self.add_raise(body, raised)?;
@@ -75,8 +74,8 @@ impl AnalysisResult {
         Ok(())
     }
 
-    /// The places that an exit goes to.
-    fn add_exit(&mut self, body: &CfgBody, exit: &Terminator) -> Result<(), NoMemory> {
+    /// The blocks that a terminator goes to.
+    fn add_exit(&mut self, body: &CfgBody, exit: &Terminator) -> Result<(), Failure> {
         match exit {
             Terminator::Jump(to) => self.add_once(*to),
             Terminator::Branch { test: _, yes, no } => {
@@ -91,8 +90,8 @@ impl AnalysisResult {
         }
     }
 
-    /// One exit goes to this block.
-    fn add_once(&mut self, block: u32) -> Result<(), NoMemory> {
+    /// One terminator goes to this block.
+    fn add_once(&mut self, block: u32) -> Result<(), Failure> {
         match self.predecessors(block)? {
             Predecessors::Unreached => self.reach(block, Predecessors::One),
             _ => self.change(block, Predecessors::Jumps),
@@ -100,7 +99,7 @@ impl AnalysisResult {
     }
 
     /// A raise goes to its block, unless its code leaves the body at once.
-    fn add_raise(&mut self, body: &CfgBody, raised: Handler) -> Result<(), NoMemory> {
+    fn add_raise(&mut self, body: &CfgBody, raised: Handler) -> Result<(), Failure> {
         if leaves(body, raised) {
             return Ok(());
         }
@@ -108,7 +107,7 @@ impl AnalysisResult {
     }
 
     /// A resumption goes to its block.
-    fn add_resumption(&mut self, resume: Option<u32>) -> Result<(), NoMemory> {
+    fn add_resumption(&mut self, resume: Option<u32>) -> Result<(), Failure> {
         match resume {
             Some(block) => self.add_jump(block),
             None => Ok(()),
@@ -116,28 +115,31 @@ impl AnalysisResult {
     }
 
     /// A jump goes to this block.
-    fn add_jump(&mut self, block: u32) -> Result<(), NoMemory> {
+    fn add_jump(&mut self, block: u32) -> Result<(), Failure> {
         match self.predecessors(block)? {
             Predecessors::Unreached => self.reach(block, Predecessors::Jumps),
             _ => self.change(block, Predecessors::Jumps),
         }
     }
 
-    fn predecessors(&self, block: u32) -> Result<Predecessors, NoMemory> {
-        held(self.predecessors.get(block as usize).copied())
+    fn predecessors(&self, block: u32) -> Result<Predecessors, Failure> {
+        known(
+            self.predecessors.get(block as usize).copied(),
+            Invariant::CfgNumber,
+        )
     }
 
     /// A block is reached for the first time.
-    fn reach(&mut self, block: u32, predecessors: Predecessors) -> Result<(), NoMemory> {
+    fn reach(&mut self, block: u32, predecessors: Predecessors) -> Result<(), Failure> {
         self.change(block, predecessors)?;
         self.waiting.push(block)?;
         Ok(())
     }
 
-    fn change(&mut self, block: u32, predecessors: Predecessors) -> Result<(), NoMemory> {
+    fn change(&mut self, block: u32, predecessors: Predecessors) -> Result<(), Failure> {
         let at = block as usize;
         if at >= self.predecessors.len() {
-            return Err(NoMemory);
+            return broken(Invariant::CfgNumber);
         }
         self.predecessors.set(at, predecessors);
         Ok(())

@@ -1,4 +1,4 @@
-//! A flat program as a module.
+//! A CFG program as a module.
 
 ghost use Rattle.std.specs.Prelude.{IfOk};
 ghost use Rattle.sa_emit.specs.Tables.{AreFunctionsOf};
@@ -10,34 +10,35 @@ use crate::pool::{slot_bytes, slot_words};
 use crate::reachability::{Reachable, reachable_of};
 use crate::runtime::{Runtime, runtime_of};
 use crate::types::own_types;
+use failure::{Failure, Invariant, known};
 use sa_cfg::CfgProgram;
 use sa_dispatch::ImplementationTable;
 use sa_runtime::layout::FIRST_TRACE_FUNCTION;
 use sa_runtime::trace::{TraceFunctions, Tracing};
-use sa_templates::{EmitProgram, SubtypeRanges, held};
+use sa_templates::{EmitProgram, SubtypeRanges};
 use sqlite_items::Items;
 use std::alloc::Global;
-use wa_syntax::{FuncTy, Module, NoMemory};
+use wa_syntax::{FuncTy, Module};
 
 /// The module of a program, whose objects have so many KiB.
 ///
 /// # Errors
 ///
-/// `NoMemory`, also where an address or a number of the module doesn't fit 32 bits, and where a number of the program names
+/// A `Failure`: `Broken` where an address or a number of the module doesn't fit 32 bits, and where a number of the program names
 /// nothing.
 pub fn emit(
     alloc: Global,
     flat: &CfgProgram,
     rows: &ImplementationTable,
     room: u32,
-) -> Result<Module, NoMemory>
+) -> Result<Module, Failure>
     ensures tables { IfOk result (λ made. AreFunctionsOf flat.now.bodies made.funcs) }
 {
     emitted(alloc, flat, rows, room, Tracing::Off)
 }
 
-/// The module of a program that is traced: what it puts tells, among the bytes of the output, what becomes of the instances of iters.
-/// `sa_runtime::trace` has the form. A site is told by its place among those of all bodies, in the order of the bodies.
+/// The module of a program that is traced: what it writes reports, among the bytes of the output, the events of the instances of iters.
+/// `sa_runtime::trace` has the format. A site is reported by its index among those of all bodies, in the order of the bodies.
 ///
 /// # Errors
 ///
@@ -47,7 +48,7 @@ pub fn emit_traced(
     flat: &CfgProgram,
     rows: &ImplementationTable,
     room: u32,
-) -> Result<Module, NoMemory>
+) -> Result<Module, Failure>
     ensures tables { IfOk result (λ made. AreFunctionsOf flat.now.bodies made.funcs) }
 {
     let tellers = TraceFunctions::from_first(FIRST_TRACE_FUNCTION)?;
@@ -70,7 +71,7 @@ fn analysis_of(
     rows: &ImplementationTable,
     room: u32,
     tracing: Tracing,
-) -> Result<AnalysisResult, NoMemory> {
+) -> Result<AnalysisResult, Failure> {
     let slot_bytes = slot_bytes(slot_words(flat, tracing)?)?;
     let reached = reachable_of(alloc, flat, rows, tracing)?;
     let memory = memory_of(alloc, flat, &reached, slot_bytes, room)?;
@@ -84,14 +85,14 @@ fn analysis_of(
     })
 }
 
-/// The module of a program, traced or not. The functions that put frames of the trace are named as those of the runtime.
+/// The module of a program, traced or not. The functions that write trace records are named as those of the runtime.
 fn emitted(
     alloc: Global,
     flat: &CfgProgram,
     rows: &ImplementationTable,
     room: u32,
     tracing: Tracing,
-) -> Result<Module, NoMemory>
+) -> Result<Module, Failure>
     ensures { IfOk result (λ made. AreFunctionsOf flat.now.bodies made.funcs) }
 {
     let found = analysis_of(alloc, flat, rows, room, tracing)?;
@@ -110,7 +111,7 @@ fn with_runtime(
     types: Items<FuncTy>,
     runtime: Runtime,
     tracing: Tracing,
-) -> Result<Module, NoMemory>
+) -> Result<Module, Failure>
     ensures { IfOk result (λ made. AreFunctionsOf flat.now.bodies made.funcs) }
 {
     let Runtime { funcs, numbers } = runtime;
@@ -138,12 +139,15 @@ fn with_runtime(
 }
 
 /// The same, with the functions named by the numbers that they have in the module.
-fn in_module(tracing: Tracing, numbers: &[Option<u32>]) -> Result<Tracing, NoMemory> {
+fn in_module(tracing: Tracing, numbers: &[Option<u32>]) -> Result<Tracing, Failure> {
     match tracing {
         Tracing::Off => Ok(Tracing::Off),
         Tracing::On(tellers) => {
-            let first = held(numbers.get(tellers.byte as usize).copied())?;
-            Ok(Tracing::On(TraceFunctions::from_first(held(first)?)?))
+            let first = known(
+                numbers.get(tellers.byte as usize).copied(),
+                Invariant::CfgNumber,
+            )?;
+            Ok(Tracing::On(TraceFunctions::from_first(known(first, Invariant::CfgNumber)?)?))
         }
     }
 }

@@ -1,6 +1,7 @@
 //! What a program can reach from its last body: bodies, signatures, binds, texts, and functions of the runtime.
 
 use crate::sums::{number, sum};
+use failure::{Failure, Invariant, broken, known};
 use sa_cfg::{
     BasicBlock, CallOperation, CallTarget, CfgOperation, CfgProgram, Constant, Terminator,
 };
@@ -13,9 +14,7 @@ use sa_runtime::layout::{
 use sa_runtime::trace::Tracing;
 use sa_stackify::{BuiltinForm, form_of};
 use sa_structure::raised_of;
-use sa_templates::held;
 use std::alloc::Global;
-use wa_syntax::NoMemory;
 
 /// What is reached.
 #[derive(Drop)]
@@ -34,13 +33,13 @@ pub(crate) struct Reachable {
     waiting: Vec<u32>,
 }
 
-/// What a program reaches. A traced one has all functions that put frames of the trace.
+/// What a program reaches. A traced one has all functions that write trace records.
 pub(crate) fn reachable_of(
     alloc: Global,
     flat: &CfgProgram,
     rows: &ImplementationTable,
     tracing: Tracing,
-) -> Result<Reachable, NoMemory> {
+) -> Result<Reachable, Failure> {
     let mut reached = Reachable {
         bodies: vec![in alloc; false; flat.bodies.len()]?,
         signatures: vec![in alloc; false; rows.signatures() as usize]?,
@@ -63,19 +62,19 @@ pub(crate) fn reachable_of(
 }
 
 /// Marks an entry: whether it wasn't marked before.
-fn mark(list: &mut Vec<bool>, at: u32) -> Result<bool, NoMemory> {
+fn mark(list: &mut Vec<bool>, at: u32) -> Result<bool, Failure> {
     match list.get_mut(at as usize) {
         Some(marked) => {
             let fresh = !*marked;
             *marked = true;
             Ok(fresh)
         }
-        None => Err(NoMemory),
+        None => broken(Invariant::CfgNumber),
     }
 }
 
 impl Reachable {
-    fn reach_body(&mut self, body: u32) -> Result<(), NoMemory> {
+    fn reach_body(&mut self, body: u32) -> Result<(), Failure> {
         if mark(&mut self.bodies, body)? {
             self.waiting.push(body)?;
         }
@@ -87,19 +86,19 @@ impl Reachable {
         flat: &CfgProgram,
         rows: &ImplementationTable,
         sig: u32,
-    ) -> Result<(), NoMemory> {
+    ) -> Result<(), Failure> {
         if !mark(&mut self.signatures, sig)? || rows.types(sig).is_empty() {
             return Ok(());
         }
-        let first = held(rows.first(sig))?;
+        let first = known(rows.first(sig), Invariant::CfgNumber)?;
         let end = sum(first, number(rows.types(sig).len())?)?;
         for row in first..end {
-            self.reach_body(*held(flat.targets.get(row as usize))?)?;
+            self.reach_body(*known(flat.targets.get(row as usize), Invariant::CfgNumber)?)?;
         }
         Ok(())
     }
 
-    fn reach_trace_functions(&mut self, tracing: Tracing) -> Result<(), NoMemory> {
+    fn reach_trace_functions(&mut self, tracing: Tracing) -> Result<(), Failure> {
         match tracing {
             Tracing::Off => Ok(()),
             Tracing::On(_) => {
@@ -111,7 +110,7 @@ impl Reachable {
         }
     }
 
-    fn reach_runtime(&mut self, function: u32) -> Result<(), NoMemory> {
+    fn reach_runtime(&mut self, function: u32) -> Result<(), Failure> {
         mark(&mut self.runtime, function)?;
         Ok(())
     }
@@ -121,8 +120,11 @@ impl Reachable {
         flat: &CfgProgram,
         rows: &ImplementationTable,
         body: u32,
-    ) -> Result<(), NoMemory> {
-        for block in held(flat.bodies.get(body as usize))?.blocks.as_slice() {
+    ) -> Result<(), Failure> {
+        for block in known(flat.bodies.get(body as usize), Invariant::CfgNumber)?
+            .blocks
+            .as_slice()
+        {
             self.go_through(flat, rows, block)?;
         }
         Ok(())
@@ -133,7 +135,7 @@ impl Reachable {
         flat: &CfgProgram,
         rows: &ImplementationTable,
         block: &BasicBlock,
-    ) -> Result<(), NoMemory> {
+    ) -> Result<(), Failure> {
         for step in block.steps.as_slice() {
             if raised_of(step).is_some() {
                 self.reach_runtime(FAULT)?;
@@ -151,7 +153,7 @@ impl Reachable {
         flat: &CfgProgram,
         rows: &ImplementationTable,
         step: &CfgOperation,
-    ) -> Result<(), NoMemory> {
+    ) -> Result<(), Failure> {
         match step {
             CfgOperation::Const {
                 value: Constant::Text(text),
@@ -180,14 +182,14 @@ impl Reachable {
         }
     }
 
-    fn reach_boxing(&mut self, ty: u32) -> Result<(), NoMemory> {
+    fn reach_boxing(&mut self, ty: u32) -> Result<(), Failure> {
         if ty == BOOL || ty == INT || ty == CHAR {
             return self.reach_runtime(BOX_WORD);
         }
         self.reach_runtime(BOX_IMMUTABLE)
     }
 
-    fn reach_frames(&mut self) -> Result<(), NoMemory> {
+    fn reach_frames(&mut self) -> Result<(), Failure> {
         self.reach_runtime(NEW_FRAME)?;
         self.reach_runtime(END_FRAME)
     }
@@ -197,7 +199,7 @@ impl Reachable {
         flat: &CfgProgram,
         rows: &ImplementationTable,
         plan: &CallOperation,
-    ) -> Result<(), NoMemory> {
+    ) -> Result<(), Failure> {
         self.reach_frames()?;
         self.reach_called(flat, rows, plan)
     }
@@ -207,7 +209,7 @@ impl Reachable {
         flat: &CfgProgram,
         rows: &ImplementationTable,
         plan: &CallOperation,
-    ) -> Result<(), NoMemory> {
+    ) -> Result<(), Failure> {
         match plan.callee {
             CallTarget::Body(body) => self.reach_body(body),
             CallTarget::Builtin(feature) => self.reach_builtin(feature),
@@ -220,7 +222,7 @@ impl Reachable {
         }
     }
 
-    fn reach_builtin(&mut self, feature: BuiltinFeature) -> Result<(), NoMemory> {
+    fn reach_builtin(&mut self, feature: BuiltinFeature) -> Result<(), Failure> {
         match form_of(feature) {
             BuiltinForm::Called => self.reach_runtime(FIRST_BUILTIN + u32::from(feature.number())),
             _ => Ok(()),
@@ -233,12 +235,12 @@ impl Reachable {
         flat: &CfgProgram,
         rows: &ImplementationTable,
         entry: u32,
-    ) -> Result<(), NoMemory> {
+    ) -> Result<(), Failure> {
         self.reach_runtime(ALLOCATE)?;
         if !mark(&mut self.binds, entry)? {
             return Ok(());
         }
-        match held(flat.binds.get(entry as usize))?.callee {
+        match known(flat.binds.get(entry as usize), Invariant::CfgNumber)?.callee {
             CallTarget::Body(body) => self.reach_body(body),
             CallTarget::Dispatch(sig) => self.reach_signature(flat, rows, sig),
             _ => Ok(()),

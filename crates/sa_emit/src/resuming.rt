@@ -1,20 +1,23 @@
-//! How the function of an iter's body begins or goes on: the choice between its blocks by the number in its frame.
+//! How the function of an iter's body begins or resumes: the dispatch between its blocks by the number in its frame.
 
+use failure::{Failure, Invariant, broken, known};
 use sa_cfg::{CfgBody, Terminator};
-use sa_emit_step::{emit_entry_prologue, emit_resume_prologue, emit_start_prologue};
 use sa_structure::StructuredBody;
-use sa_templates::{EmitContext, emit_jump, held, target_number};
+use sa_templates::{
+    EmitContext, emit_entry_prologue, emit_jump, emit_resume_prologue, emit_start_prologue,
+    target_number,
+};
 use sqlite_items::Items;
 use std::alloc::Global;
-use wa_syntax::{Instr, NoMemory};
+use wa_syntax::Instr;
 
-/// Adds what stands before code that is jumped back to: behind it the number of the block to go on in is in its local, and what a
-/// start or a resumption takes is there.
+/// Emits the prologue before code that is jumped back to: after it the number of the block in which the body continues is in its local, and
+/// so is what a start or a resumption takes.
 pub(crate) fn emit_before_dispatch(
     alloc: Global,
     code: &mut Items<Instr>,
     around: &EmitContext<'_>,
-) -> Result<(), NoMemory> {
+) -> Result<(), Failure> {
     emit_entry_prologue(code, around.body)?;
     code.push(Instr::LocalTee(around.block()))?;
     let mut resumption = Items::new(alloc);
@@ -30,13 +33,13 @@ pub(crate) fn emit_before_dispatch(
     Ok(())
 }
 
-/// Adds the choice that is made once: at a resumption it jumps to the block to go on in, and a start goes on behind it.
+/// Emits the dispatch that is made once: at a resumption it jumps to the block in which the body continues, and a start continues after it.
 pub(crate) fn emit_dispatch(
     alloc: Global,
     code: &mut Items<Instr>,
     around: &EmitContext<'_>,
     shaped: &StructuredBody,
-) -> Result<(), NoMemory> {
+) -> Result<(), Failure> {
     let body = around.body;
     let inner = around.further_in()?;
     let mut resumption = Items::new(alloc);
@@ -53,28 +56,28 @@ pub(crate) fn emit_dispatch(
     emit_start_prologue(code, body, around.keeping, only_resume(around)?)
 }
 
-/// Adds the choice that is jumped back to. `following` is the block that begins behind it.
+/// Emits the dispatch that is jumped back to. `following` is the block that begins after it.
 pub(crate) fn emit_dispatch_again(
     alloc: Global,
     code: &mut Items<Instr>,
     around: &EmitContext<'_>,
     shaped: &StructuredBody,
     following: Option<u32>,
-) -> Result<(), NoMemory> {
+) -> Result<(), Failure> {
     let mut table = Items::new(alloc);
     emit_table(alloc, &mut table, &around.further_in()?, shaped, following)?;
     code.push(Instr::block_of(alloc, None, table)?)?;
     Ok(())
 }
 
-/// Adds the table of the blocks by their numbers. The one that begins behind what stands around it has the label 0.
+/// Emits the table of the blocks by their numbers. The one that begins after the block around it has the label 0.
 fn emit_table(
     alloc: Global,
     code: &mut Items<Instr>,
     around: &EmitContext<'_>,
     shaped: &StructuredBody,
     following: Option<u32>,
-) -> Result<(), NoMemory> {
+) -> Result<(), Failure> {
     let mut labels = Items::new(alloc);
     let mut last = 0;
     for block in shaped.entries.as_slice() {
@@ -86,20 +89,23 @@ fn emit_table(
     Ok(())
 }
 
-/// The label of a block in the table. Block 0 has none where a start doesn't come to the table.
-fn label_of(around: &EmitContext<'_>, block: u32, following: Option<u32>) -> Result<u32, NoMemory> {
+/// The label of a block in the table. Block 0 has none where a start doesn't reach the table.
+fn label_of(around: &EmitContext<'_>, block: u32, following: Option<u32>) -> Result<u32, Failure> {
     if following == Some(block) {
         return Ok(0);
     }
-    match held(around.labels.get(block as usize).copied())? {
+    match known(
+        around.labels.get(block as usize).copied(),
+        Invariant::CfgNumber,
+    )? {
         Some(depth) => around.nesting.label(depth),
         None if block == 0 => Ok(0),
-        None => Err(NoMemory),
+        None => broken(Invariant::CfgNumber),
     }
 }
 
-/// The number of the block that is gone on in behind the suspension, where there is one alone.
-fn only_resume(around: &EmitContext<'_>) -> Result<Option<u32>, NoMemory> {
+/// The number of the block in which the body resumes after the suspension, where there is one alone.
+fn only_resume(around: &EmitContext<'_>) -> Result<Option<u32>, Failure> {
     if around.keeping.suspensions != 1 {
         return Ok(None);
     }

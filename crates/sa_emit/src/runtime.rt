@@ -3,14 +3,14 @@
 use crate::memory::Memory;
 use crate::sums::{number, sum};
 use crate::types::{GET_TYPE, PUT_TYPE, host_types};
+use failure::{Failure, Invariant, broken, known};
 use sa_pool::PoolCode;
 use sa_runtime::layout::{FIRST_BUILTIN, FUNCTIONS};
 use sa_runtime::trace::Tracing;
 use sa_runtime::{RuntimeCode, code, frames, support, trace_code};
-use sa_templates::held;
 use sqlite_items::Items;
 use std::alloc::Global;
-use wa_syntax::{Func, FuncTy, Instr, Locals, NoMemory};
+use wa_syntax::{Func, FuncTy, Instr, Locals};
 
 /// All functions of the runtime, with the types that they name. The first two are those of `put` and of `get`, which the module has at
 /// the same numbers.
@@ -36,7 +36,7 @@ pub(crate) fn runtime_of(
     room: u32,
     tracing: Tracing,
     called: &[bool],
-) -> Result<Runtime, NoMemory> {
+) -> Result<Runtime, Failure> {
     let all = all_functions(alloc, memory, room, tracing)?;
     let NeededFunctions { marks, .. } = NeededFunctions::of(alloc, all.funcs.as_slice(), called)?;
     let numbers = numbers_of(alloc, &marks)?;
@@ -51,7 +51,7 @@ fn kept(
     all: &All,
     needed: &[bool],
     numbers: &[Option<u32>],
-) -> Result<Items<Func>, NoMemory> {
+) -> Result<Items<Func>, Failure> {
     let mut kept = TypeNumbers {
         types: vec![in alloc; None; all.types.len()]?,
     };
@@ -66,13 +66,13 @@ fn kept(
 }
 
 /// The function once more, with another type, and with the numbers that functions have in the module.
-fn copied(alloc: Global, numbers: &[Option<u32>], func: &Func, ty: u32) -> Result<Func, NoMemory> {
+fn copied(alloc: Global, numbers: &[Option<u32>], func: &Func, ty: u32) -> Result<Func, Failure> {
     let locals = copied_locals(alloc, &func.locals)?;
     let body = renumbered(alloc, numbers, func.body.as_slice())?;
     Ok(Func { ty, locals, body })
 }
 
-fn copied_locals(alloc: Global, locals: &Locals) -> Result<Locals, NoMemory> {
+fn copied_locals(alloc: Global, locals: &Locals) -> Result<Locals, Failure> {
     let mut copy = Locals::new(alloc);
     for run in locals.runs() {
         copy.push(run.count, run.ty)?;
@@ -80,7 +80,7 @@ fn copied_locals(alloc: Global, locals: &Locals) -> Result<Locals, NoMemory> {
     Ok(copy)
 }
 
-/// For each type of the runtime its number in the module, if a kept function has it.
+/// For each type of the runtime its number in the module, if one of the functions of the module has it.
 #[derive(Drop)]
 struct TypeNumbers {
     types: Vec<Option<u32>>,
@@ -94,34 +94,34 @@ impl TypeNumbers {
         types: &mut Items<FuncTy>,
         own: &[FuncTy],
         ty: u32,
-    ) -> Result<u32, NoMemory> {
+    ) -> Result<u32, Failure> {
         if ty == PUT_TYPE || ty == GET_TYPE {
             return Ok(ty);
         }
-        if let Some(number) = held(self.types.get(ty as usize).copied())? {
+        if let Some(number) = known(self.types.get(ty as usize).copied(), Invariant::CfgNumber)? {
             return Ok(number);
         }
         let added = number(types.len())?;
-        let own = held(own.get(ty as usize))?;
+        let own = known(own.get(ty as usize), Invariant::CfgNumber)?;
         types.push(FuncTy {
             params: Items::from_slice(alloc, own.params.as_slice())?,
             results: Items::from_slice(alloc, own.results.as_slice())?,
         })?;
         match self.types.get_mut(ty as usize) {
             Some(place) => *place = Some(added),
-            None => return Err(NoMemory),
+            None => return broken(Invariant::CfgNumber),
         }
         Ok(added)
     }
 }
 
-/// All functions of the runtime, in the order of their numbers. Those that put frames of the trace stand behind the others.
+/// All functions of the runtime, in the order of their numbers. Those that write trace records come after the others.
 fn all_functions(
     alloc: Global,
     memory: &Memory,
     room: u32,
     tracing: Tracing,
-) -> Result<All, NoMemory> {
+) -> Result<All, Failure> {
     let mut all = All {
         types: host_types(alloc)?,
         funcs: Items::new(alloc),
@@ -139,8 +139,8 @@ fn all_functions(
 }
 
 impl All {
-    /// Adds functions, whose types stand behind those that are there. They are few, so each is taken from the front.
-    fn add(&mut self, code: RuntimeCode) -> Result<(), NoMemory> {
+    /// Appends functions, whose types come after those that are there. They are few, so each is taken from the front.
+    fn add(&mut self, code: RuntimeCode) -> Result<(), Failure> {
         let RuntimeCode {
             types: more,
             funcs: mut waiting,
@@ -169,7 +169,7 @@ fn typed(func: Func, ty: u32) -> Func {
     Func { ty, locals, body }
 }
 
-/// The functions of the runtime behind the imported ones that are needed.
+/// The functions of the runtime, after the imported ones, that are needed.
 #[derive(Drop)]
 struct NeededFunctions {
     /// For each whether it is.
@@ -180,7 +180,7 @@ struct NeededFunctions {
 
 impl NeededFunctions {
     /// The functions that are called, and those that needed ones call.
-    fn of(alloc: Global, funcs: &[Func], called: &[bool]) -> Result<NeededFunctions, NoMemory> {
+    fn of(alloc: Global, funcs: &[Func], called: &[bool]) -> Result<NeededFunctions, Failure> {
         let mut needed = NeededFunctions {
             marks: vec![in alloc; false; funcs.len()]?,
             waiting: Vec::new(alloc),
@@ -191,7 +191,7 @@ impl NeededFunctions {
     }
 
     /// The functions that are called are needed.
-    fn need_each(&mut self, called: &[bool]) -> Result<(), NoMemory> {
+    fn need_each(&mut self, called: &[bool]) -> Result<(), Failure> {
         for (function, is_called) in called.iter().enumerate() {
             if *is_called {
                 self.need(number(function)?)?;
@@ -201,12 +201,12 @@ impl NeededFunctions {
     }
 
     /// What needed functions call is needed.
-    fn follow(&mut self, funcs: &[Func]) -> Result<(), NoMemory> {
+    fn follow(&mut self, funcs: &[Func]) -> Result<(), Failure> {
         for _ in 0..funcs.len() {
             let Some(place) = self.waiting.pop() else {
                 break;
             };
-            let func = held(funcs.get(place as usize))?;
+            let func = known(funcs.get(place as usize), Invariant::CfgNumber)?;
             self.need_called(func.body.as_slice())?;
         }
         Ok(())
@@ -214,7 +214,7 @@ impl NeededFunctions {
 
     /// The functions that instructions call are needed.
     #[cycle(needed)]
-    fn need_called(&mut self, code: &[Instr]) -> Result<(), NoMemory> {
+    fn need_called(&mut self, code: &[Instr]) -> Result<(), Failure> {
         for instr in code {
             match instr {
                 Instr::Call(function) => self.need(*function)?,
@@ -232,11 +232,11 @@ impl NeededFunctions {
     }
 
     /// A function is needed. Those that are imported are there anyway.
-    fn need(&mut self, function: u32) -> Result<(), NoMemory> {
+    fn need(&mut self, function: u32) -> Result<(), Failure> {
         let Some(place) = function.checked_sub(FIRST_BUILTIN) else {
             return Ok(());
         };
-        let marked = held(self.marks.get_mut(place as usize))?;
+        let marked = known(self.marks.get_mut(place as usize), Invariant::CfgNumber)?;
         if !*marked {
             *marked = true;
             self.waiting.push(place)?;
@@ -245,8 +245,8 @@ impl NeededFunctions {
     }
 }
 
-/// The numbers in the module of the imported functions, and of those that are needed behind them.
-fn numbers_of(alloc: Global, needed: &[bool]) -> Result<Items<Option<u32>>, NoMemory> {
+/// The numbers in the module of the imported functions, and of those after them that are needed.
+fn numbers_of(alloc: Global, needed: &[bool]) -> Result<Items<Option<u32>>, Failure> {
     let mut numbers = Items::new(alloc);
     let mut next = 0;
     for function in 0..FUNCTIONS {
@@ -274,7 +274,7 @@ fn renumbered(
     alloc: Global,
     numbers: &[Option<u32>],
     code: &[Instr],
-) -> Result<Items<Instr>, NoMemory> {
+) -> Result<Items<Instr>, Failure> {
     let mut copy = Items::new(alloc);
     for instr in code {
         copy.push(renumbered_one(alloc, numbers, instr)?)?;
@@ -283,15 +283,14 @@ fn renumbered(
 }
 
 #[cycle(renumbered)]
-fn renumbered_one(
-    alloc: Global,
-    numbers: &[Option<u32>],
-    instr: &Instr,
-) -> Result<Instr, NoMemory> {
+fn renumbered_one(alloc: Global, numbers: &[Option<u32>], instr: &Instr) -> Result<Instr, Failure> {
     Ok(match instr {
         Instr::Call(function) => {
-            let number = held(numbers.get(*function as usize).copied())?;
-            Instr::Call(held(number)?)
+            let number = known(
+                numbers.get(*function as usize).copied(),
+                Invariant::CfgNumber,
+            )?;
+            Instr::Call(known(number, Invariant::CfgNumber)?)
         }
         Instr::Block(result, body) => {
             let body = renumbered(alloc, numbers, body.get().as_slice())?;

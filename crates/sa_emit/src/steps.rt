@@ -1,24 +1,23 @@
-//! The steps of blocks, with what stays an operand between them.
+//! The operations of blocks, with the values that stay on the operand stack between them.
 
-use crate::sums::held_graph;
+use failure::{Failure, Invariant, broken};
 use sa_cfg::{BasicBlock, CfgBody, CfgOperation, FIRST_TEMPORARY, Terminator};
-use sa_emit_step::emit_step;
 use sa_stackify::{Planner, ResultPlace, add_set, result_of};
-use sa_templates::{EmitContext, OperandSource, jump_to, word_of};
+use sa_templates::{EmitContext, OperandSource, emit_step, jump_to, word_of};
 use sqlite_items::Items;
 use std::alloc::Global;
-use wa_syntax::{Instr, NoMemory, opcode};
+use wa_syntax::{Instr, opcode};
 
 /// What instruction a turn has, so that a run never has more turns than instructions.
 #[derive(Clone, Copy, Debug, PartialEq, Eq)]
 pub(crate) enum BackEdge {
-    /// The one by which the block is come to.
+    /// The one by which the block is reached.
     Edge,
     /// A `nop` of its own.
     Nop,
 }
 
-/// Writes the steps of the blocks of a body.
+/// Emits the operations of the blocks of a body.
 #[derive(Drop)]
 pub(crate) struct Writer<'a> {
     planner: Planner<'a>,
@@ -26,17 +25,17 @@ pub(crate) struct Writer<'a> {
     readings: Vec<OperandSource>,
     /// The temporaries that aren't read from their locals.
     elsewhere: Vec<u32>,
-    /// The variables that the step at hand sets.
+    /// The variables that the current operation sets.
     set: Vec<u32>,
-    /// For each block whose label can be seen how much stands around what the label is of.
+    /// For each block whose label is in scope the nesting around what the label is of.
     labels: Vec<Option<u32>>,
 }
 
 impl<'a> Writer<'a> {
-    pub(crate) fn new(alloc: Global, body: &'a CfgBody) -> Result<Writer<'a>, NoMemory> {
+    pub(crate) fn new(alloc: Global, body: &'a CfgBody) -> Result<Writer<'a>, Failure> {
         let temporaries = body.temporaries.saturating_sub(FIRST_TEMPORARY) as usize;
         Ok(Writer {
-            planner: held_graph(Planner::new(alloc, body))?,
+            planner: Planner::new(alloc, body)?,
             readings: vec![in alloc; OperandSource::Local; temporaries]?,
             elsewhere: Vec::new(alloc),
             set: Vec::new(alloc),
@@ -44,12 +43,12 @@ impl<'a> Writer<'a> {
         })
     }
 
-    /// The label of a block can be seen from now on, around which so much stands; or it can't. The answer is what was so before.
+    /// The label of a block is in scope from now on, with this nesting around it; or it isn't. Returns what was so before.
     pub(crate) fn set_label(
         &mut self,
         block: Option<u32>,
         label: Option<u32>,
-    ) -> Result<Option<u32>, NoMemory> {
+    ) -> Result<Option<u32>, Failure> {
         let Some(block) = block else {
             return Ok(None);
         };
@@ -59,12 +58,12 @@ impl<'a> Writer<'a> {
                 *place = label;
                 Ok(before)
             }
-            None => Err(NoMemory),
+            None => broken(Invariant::CfgNumber),
         }
     }
 
-    /// Adds the steps of a block, of which the exit is left. `turn` is what instruction a turn has that is the first of them; each
-    /// other one has a `nop`. The answer is whether the last step has decided the branch behind it.
+    /// Emits the operations of a block, but not its terminator. `turn` is what instruction a turn has that is the first of them; each other
+    /// one has a `nop`. Returns whether the last operation has decided the branch after it.
     pub(crate) fn emit_steps(
         &mut self,
         alloc: Global,
@@ -73,11 +72,11 @@ impl<'a> Writer<'a> {
         number: u32,
         block: &BasicBlock,
         turn: BackEdge,
-    ) -> Result<bool, NoMemory> {
+    ) -> Result<bool, Failure> {
         self.forget()?;
         let mut turn = turn;
         let mut decided = false;
-        let given = copied(alloc, held_graph(self.planner.plan(number))?)?;
+        let given = copied(alloc, self.planner.plan(number)?)?;
         for (step, given) in block.steps.as_slice().iter().zip(given.iter()) {
             if is_turn(step) && turn == BackEdge::Nop {
                 code.push(Instr::Plain(opcode::NOP))?;
@@ -95,7 +94,7 @@ impl<'a> Writer<'a> {
     }
 
     /// Each temporary is read from its local.
-    fn forget(&mut self) -> Result<(), NoMemory> {
+    fn forget(&mut self) -> Result<(), Failure> {
         for _ in 0..self.elsewhere.len() {
             if let Some(var) = self.elsewhere.pop() {
                 put(&mut self.readings, var, OperandSource::Local)?;
@@ -112,7 +111,7 @@ impl<'a> Writer<'a> {
         step: &CfgOperation,
         given: ResultPlace,
         left: Option<u32>,
-    ) -> Result<(), NoMemory> {
+    ) -> Result<(), Failure> {
         if given != ResultPlace::Rematerialised && given != ResultPlace::AlreadyThere {
             let here = EmitContext {
                 given,
@@ -124,7 +123,7 @@ impl<'a> Writer<'a> {
             emit_step(alloc, code, &here, step)?;
         }
         self.set.clear();
-        held_graph(add_set(&mut self.set, step))?;
+        add_set(&mut self.set, step)?;
         for at in 0..self.set.len() {
             if let Some(var) = self.set.get(at).copied() {
                 put(&mut self.readings, var, OperandSource::Local)?;
@@ -136,7 +135,7 @@ impl<'a> Writer<'a> {
         Ok(())
     }
 
-    fn read_from(&mut self, var: u32, reading: OperandSource) -> Result<(), NoMemory> {
+    fn read_from(&mut self, var: u32, reading: OperandSource) -> Result<(), Failure> {
         if reading != OperandSource::Local && var >= FIRST_TEMPORARY {
             put(&mut self.readings, var, reading)?;
             self.elsewhere.push(var)?;
@@ -144,27 +143,23 @@ impl<'a> Writer<'a> {
         Ok(())
     }
 
-    /// How each temporary is read behind the steps that were added last.
+    /// How each temporary is read after the operations that were emitted last.
     pub(crate) fn readings(&self) -> &[OperandSource] {
         self.readings.as_slice()
     }
 
-    /// For each block whose label can be seen how much stands around what the label is of.
+    /// For each block whose label is in scope the nesting around what the label is of.
     pub(crate) fn labels(&self) -> &[Option<u32>] {
         self.labels.as_slice()
     }
 }
 
-fn copied(alloc: Global, given: &[ResultPlace]) -> Result<Vec<ResultPlace>, NoMemory> {
+fn copied(alloc: Global, given: &[ResultPlace]) -> Result<Vec<ResultPlace>, Failure> {
     Ok(Vec::from_slice(alloc, given)?)
 }
 
 /// Sets how a temporary is read. Other variables are read from their locals.
-fn put(
-    readings: &mut Vec<OperandSource>,
-    var: u32,
-    reading: OperandSource,
-) -> Result<(), NoMemory> {
+fn put(readings: &mut Vec<OperandSource>, var: u32, reading: OperandSource) -> Result<(), Failure> {
     let Some(place) = var.checked_sub(FIRST_TEMPORARY) else {
         return Ok(());
     };
@@ -173,16 +168,16 @@ fn put(
             *old = reading;
             Ok(())
         }
-        None => Err(NoMemory),
+        None => broken(Invariant::CfgNumber),
     }
 }
 
-/// How the value is read that a step gives.
+/// How the value of an operation is read.
 fn reading_of(
     around: &EmitContext<'_>,
     step: &CfgOperation,
     given: ResultPlace,
-) -> Result<OperandSource, NoMemory> {
+) -> Result<OperandSource, Failure> {
     match given {
         ResultPlace::Stack => Ok(OperandSource::Operand),
         ResultPlace::StackBool => Ok(OperandSource::Truth),
@@ -191,21 +186,21 @@ fn reading_of(
     }
 }
 
-/// How the value of a step is read that isn't done.
-fn free_reading(around: &EmitContext<'_>, step: &CfgOperation) -> Result<OperandSource, NoMemory> {
+/// How the value of an operation is read that isn't emitted.
+fn free_reading(around: &EmitContext<'_>, step: &CfgOperation) -> Result<OperandSource, Failure> {
     match step {
         CfgOperation::Const { value, .. } => Ok(OperandSource::Word(word_of(around, value)?)),
         CfgOperation::SelfRef { .. } => Ok(OperandSource::SelfRef),
-        _ => Err(NoMemory),
+        _ => broken(Invariant::ExcludedForm),
     }
 }
 
-/// Whether a step spends a turn and does nothing else.
+/// Whether an operation spends a turn and does nothing else.
 fn is_turn(step: &CfgOperation) -> bool {
     matches!(step, CfgOperation::Turn)
 }
 
-/// The block that a step goes on in where it decides the branch behind it, and its instance has ended: one that is jumped to.
+/// The block in which an operation continues where it decides the branch after it, and its instance has ended: one that is jumped to.
 fn left_to(around: &EmitContext<'_>, block: &BasicBlock, given: ResultPlace) -> Option<u32> {
     if given != ResultPlace::FusedBranch {
         return None;

@@ -1,35 +1,35 @@
-//! The code of a body that has a shape: blocks, loops and conditions as the shape has them.
+//! The code of a body that has structured regions: blocks, loops and conditions as the regions have them.
 
 use crate::negation::emit_negation;
 use crate::resuming::{emit_dispatch, emit_dispatch_again};
 use crate::steps::{BackEdge, Writer};
+use failure::{Failure, Invariant, broken, known};
 use sa_cfg::Terminator;
-use sa_emit_step::emit_leaving;
 use sa_structure::{Region, StructuredBody, block_after, first_of};
-use sa_templates::{EmitContext, Jump, emit_jump, emit_test, held, jump_to};
+use sa_templates::{EmitContext, Jump, emit_jump, emit_leaving, emit_test, jump_to};
 use sqlite_items::Items;
 use std::alloc::Global;
-use wa_syntax::{Instr, NoMemory};
+use wa_syntax::Instr;
 
-/// Where a piece of a shape stands.
+/// The position of a piece among the regions.
 #[derive(Clone, Copy)]
 struct CodePosition<'a> {
     around: EmitContext<'a>,
     shaped: &'a StructuredBody,
-    /// The block that begins behind the piece, if one does.
+    /// The block that begins after the piece, if one does.
     following: Option<u32>,
     /// What instruction a turn has that the piece begins with.
     turn: BackEdge,
 }
 
-/// Adds the code of a body that has a shape.
+/// Emits the code of a body that has structured regions.
 pub(crate) fn emit_structured(
     alloc: Global,
     code: &mut Items<Instr>,
     around: &EmitContext<'_>,
     writer: &mut Writer<'_>,
     shaped: &StructuredBody,
-) -> Result<(), NoMemory> {
+) -> Result<(), Failure> {
     let spot = CodePosition {
         around: *around,
         shaped,
@@ -39,7 +39,7 @@ pub(crate) fn emit_structured(
     emit_list(alloc, shaped.list.as_slice(), code, writer, spot)
 }
 
-/// Adds the code of a list, behind which the block of the spot begins.
+/// Emits the code of a list, after which the block of the position begins.
 #[cycle(structured)]
 fn emit_list(
     alloc: Global,
@@ -47,7 +47,7 @@ fn emit_list(
     code: &mut Items<Instr>,
     writer: &mut Writer<'_>,
     spot: CodePosition<'_>,
-) -> Result<(), NoMemory> {
+) -> Result<(), Failure> {
     let mut turn = spot.turn;
     for (place, shape) in list.iter().enumerate() {
         let rest = list.get(place.saturating_add(1)..).unwrap_or(&[]);
@@ -70,7 +70,7 @@ fn emit_piece(
     code: &mut Items<Instr>,
     writer: &mut Writer<'_>,
     spot: CodePosition<'_>,
-) -> Result<(), NoMemory> {
+) -> Result<(), Failure> {
     match shape {
         Region::Basic(block) => emit_block(alloc, code, writer, spot, *block),
         Region::If(block, list) => emit_if(alloc, list.as_slice(), code, writer, spot, *block),
@@ -97,7 +97,7 @@ fn labelled(
     spot: CodePosition<'_>,
     label: Option<u32>,
     following: Option<u32>,
-) -> Result<Items<Instr>, NoMemory> {
+) -> Result<Items<Instr>, Failure> {
     let depth = spot.around.nesting.depth();
     let before = writer.set_label(label, Some(depth))?;
     let code = inside(alloc, list, writer, spot, following)?;
@@ -113,7 +113,7 @@ fn inside(
     writer: &mut Writer<'_>,
     spot: CodePosition<'_>,
     following: Option<u32>,
-) -> Result<Items<Instr>, NoMemory> {
+) -> Result<Items<Instr>, Failure> {
     let inner = CodePosition {
         around: spot.around.further_in()?,
         shaped: spot.shaped,
@@ -125,7 +125,7 @@ fn inside(
     Ok(code)
 }
 
-/// Adds a block with a branch whose side for where the test holds stands inside.
+/// Emits a block with a branch whose side for where the test holds is inside.
 #[cycle(structured)]
 fn emit_if(
     alloc: Global,
@@ -134,10 +134,13 @@ fn emit_if(
     writer: &mut Writer<'_>,
     spot: CodePosition<'_>,
     number: u32,
-) -> Result<(), NoMemory> {
-    let block = held(spot.around.body.blocks.get(number as usize))?;
+) -> Result<(), Failure> {
+    let block = known(
+        spot.around.body.blocks.get(number as usize),
+        Invariant::CfgNumber,
+    )?;
     let Terminator::Branch { test, yes: _, no } = block.exit else {
-        return Err(NoMemory);
+        return broken(Invariant::ExcludedForm);
     };
     writer.emit_steps(alloc, code, &spot.around, number, block, spot.turn)?;
     let here = EmitContext {
@@ -151,15 +154,18 @@ fn emit_if(
     emit_transfer(code, writer, spot, no)
 }
 
-/// Adds a block.
+/// Emits a block.
 fn emit_block(
     alloc: Global,
     code: &mut Items<Instr>,
     writer: &mut Writer<'_>,
     spot: CodePosition<'_>,
     number: u32,
-) -> Result<(), NoMemory> {
-    let block = held(spot.around.body.blocks.get(number as usize))?;
+) -> Result<(), Failure> {
+    let block = known(
+        spot.around.body.blocks.get(number as usize),
+        Invariant::CfgNumber,
+    )?;
     let decided = writer.emit_steps(alloc, code, &spot.around, number, block, spot.turn)?;
     let here = EmitContext {
         readings: writer.readings(),
@@ -177,13 +183,13 @@ fn emit_block(
     }
 }
 
-/// Adds what goes on in a block: nothing where it begins behind, and else a jump.
+/// Emits the transfer to a block: nothing where it begins after this point, and else a jump.
 fn emit_transfer(
     code: &mut Items<Instr>,
     writer: &Writer<'_>,
     spot: CodePosition<'_>,
     block: u32,
-) -> Result<(), NoMemory> {
+) -> Result<(), Failure> {
     if spot.following == Some(block) {
         return Ok(());
     }
@@ -195,7 +201,7 @@ fn emit_transfer(
     emit_jump(code, &here, block)
 }
 
-/// Adds what follows the test of a branch: a jump for a side, so that the other one goes on.
+/// Emits what follows the test of a branch: a jump for a side, so that the other one falls through.
 fn emit_branch(
     alloc: Global,
     code: &mut Items<Instr>,
@@ -203,7 +209,7 @@ fn emit_branch(
     spot: CodePosition<'_>,
     yes: u32,
     no: u32,
-) -> Result<(), NoMemory> {
+) -> Result<(), Failure> {
     let here = EmitContext {
         readings: writer.readings(),
         labels: writer.labels(),
@@ -217,13 +223,13 @@ fn emit_branch(
     emit_transfer(code, writer, spot, no)
 }
 
-/// Adds a jump to a block, for where the test holds.
+/// Emits a jump to a block, for where the test holds.
 fn emit_jump_where(
     alloc: Global,
     code: &mut Items<Instr>,
     around: &EmitContext<'_>,
     block: u32,
-) -> Result<(), NoMemory> {
+) -> Result<(), Failure> {
     if let Some(Jump::Label(depth)) = jump_to(around, block) {
         return Ok(code.push(Instr::BrIf(around.nesting.label(depth)?))?);
     }
@@ -233,13 +239,13 @@ fn emit_jump_where(
     Ok(())
 }
 
-/// Adds the choice between the blocks in which the body begins and goes on.
+/// Emits the dispatch between the blocks in which the body begins and resumes.
 fn emit_entries(
     alloc: Global,
     code: &mut Items<Instr>,
     writer: &Writer<'_>,
     spot: CodePosition<'_>,
-) -> Result<(), NoMemory> {
+) -> Result<(), Failure> {
     let around = EmitContext {
         readings: writer.readings(),
         labels: writer.labels(),

@@ -1,16 +1,16 @@
-//! The code of a superblock: of the block of a dispatch target, and of the blocks behind it, each of which has one predecessor, up
-//! to jumps to dispatch targets and to exits that leave the body.
+//! The code of a superblock: of the block of a dispatch target, and of the blocks after it, each of which has one predecessor, up to jumps
+//! to dispatch targets and to terminators that leave the body.
 
 use crate::steps::{BackEdge, Writer};
 use crate::targets::DEEPEST;
+use failure::{Failure, Invariant, known};
 use sa_cfg::Terminator;
-use sa_emit_step::emit_leaving;
-use sa_templates::{EmitContext, LabelDepth, emit_jump, emit_test, held};
+use sa_templates::{EmitContext, LabelDepth, emit_jump, emit_leaving, emit_test};
 use sqlite_items::Items;
 use std::alloc::Global;
-use wa_syntax::{Instr, NoMemory, opcode};
+use wa_syntax::{Instr, opcode};
 
-/// A place in the code of a superblock.
+/// A position in the code of a superblock.
 #[derive(Clone, Copy)]
 struct CodePosition<'a> {
     around: EmitContext<'a>,
@@ -23,20 +23,20 @@ struct CodePosition<'a> {
 struct OwnLoop {
     /// The block that the superblock begins with.
     block: u32,
-    /// How deep the place stands in the loop.
+    /// How deep the position is in the loop.
     nesting: LabelDepth,
 }
 
 impl<'a> CodePosition<'a> {
-    /// The place one block of code further in.
-    fn further_in(&self) -> Result<CodePosition<'a>, NoMemory> {
+    /// The position one block of code further in.
+    fn further_in(&self) -> Result<CodePosition<'a>, Failure> {
         Ok(CodePosition {
             around: self.around.further_in()?,
             own: own_further_in(self.own)?,
         })
     }
 
-    /// The label that begins the superblock of a dispatch target anew, where it stands in a loop of its own.
+    /// The label that begins the superblock of a dispatch target anew, where it is in a loop of its own.
     fn label_of(&self, target: u32) -> Option<u32> {
         let own = self.own?;
         if own.block == target {
@@ -46,12 +46,16 @@ impl<'a> CodePosition<'a> {
     }
 
     /// Whether a block is a dispatch target.
-    fn is_target(&self, block: u32) -> Result<bool, NoMemory> {
-        Ok(held(self.around.numbers.get(block as usize))?.is_some())
+    fn is_target(&self, block: u32) -> Result<bool, Failure> {
+        Ok(known(
+            self.around.numbers.get(block as usize),
+            Invariant::CfgNumber,
+        )?
+        .is_some())
     }
 }
 
-fn own_further_in(own: Option<OwnLoop>) -> Result<Option<OwnLoop>, NoMemory> {
+fn own_further_in(own: Option<OwnLoop>) -> Result<Option<OwnLoop>, Failure> {
     match own {
         Some(OwnLoop { block, nesting }) => {
             let nesting = nesting.further_in(1)?;
@@ -61,14 +65,14 @@ fn own_further_in(own: Option<OwnLoop>) -> Result<Option<OwnLoop>, NoMemory> {
     }
 }
 
-/// Adds the superblock of a dispatch target that it jumps to itself: in a loop of its own, so that these jumps need no dispatch.
+/// Emits the superblock of a dispatch target that it jumps to itself: in a loop of its own, so that these jumps need no dispatch.
 pub(crate) fn emit_repeated_target(
     alloc: Global,
     code: &mut Items<Instr>,
     writer: &mut Writer<'_>,
     around: EmitContext<'_>,
     block: u32,
-) -> Result<(), NoMemory> {
+) -> Result<(), Failure> {
     let spot = CodePosition {
         around: around.further_in()?,
         own: Some(OwnLoop {
@@ -82,19 +86,19 @@ pub(crate) fn emit_repeated_target(
     Ok(())
 }
 
-/// Adds the superblock of a dispatch target that it doesn't jump to itself.
+/// Emits the superblock of a dispatch target that it doesn't jump to itself.
 pub(crate) fn emit_target(
     alloc: Global,
     code: &mut Items<Instr>,
     writer: &mut Writer<'_>,
     around: EmitContext<'_>,
     block: u32,
-) -> Result<(), NoMemory> {
+) -> Result<(), Failure> {
     let spot = CodePosition { around, own: None };
     emit_superblock(alloc, code, writer, spot, block, DEEPEST)
 }
 
-/// What stands behind the code of a block.
+/// What follows the code of a block.
 #[derive(Clone, Copy, Debug)]
 enum TableTail {
     Nothing,
@@ -104,7 +108,7 @@ enum TableTail {
     Sides { yes: u32, no: u32 },
 }
 
-/// Adds the code that begins with this block. `depth` is the number of branches that may stand one inside the other there.
+/// Emits the code that begins with this block. `depth` is how deep branches may nest there.
 #[cycle(superblock)]
 fn emit_superblock(
     alloc: Global,
@@ -113,7 +117,7 @@ fn emit_superblock(
     spot: CodePosition<'_>,
     first: u32,
     depth: u32,
-) -> Result<(), NoMemory> {
+) -> Result<(), Failure> {
     let mut next = first;
     for _ in 0..spot.around.body.blocks.len() {
         match emit_block(alloc, code, writer, spot, next)? {
@@ -128,7 +132,7 @@ fn emit_superblock(
     Err(endless())
 }
 
-/// Adds the code that begins with the block `yes` of a branch, for where the test holds.
+/// Emits the code that begins with the block `yes` of a branch, for where the test holds.
 #[cycle(superblock)]
 fn emit_side(
     alloc: Global,
@@ -137,7 +141,7 @@ fn emit_side(
     spot: CodePosition<'_>,
     yes: u32,
     depth: u32,
-) -> Result<(), NoMemory> {
+) -> Result<(), Failure> {
     if depth == 0 {
         return Err(too_deep());
     }
@@ -148,26 +152,28 @@ fn emit_side(
     Ok(())
 }
 
-/// The answer where a superblock has more blocks than the body, which can't be: a block that two exits lead to is a dispatch
-/// target.
-fn endless() -> NoMemory {
-    NoMemory
+/// The error where a superblock has more blocks than the body, which can't be: a block that two terminators lead to is a dispatch target.
+fn endless() -> Failure {
+    Failure::Broken(Invariant::CfgNumber)
 }
 
-/// The answer where branches stand too deep, which can't be: the block that would stand there is a dispatch target.
-fn too_deep() -> NoMemory {
-    NoMemory
+/// The error where branches nest too deep, which can't be: the block that would be there is a dispatch target.
+fn too_deep() -> Failure {
+    Failure::Broken(Invariant::LabelDepth)
 }
 
-/// Adds the code of a block, and says what stands behind it.
+/// Emits the code of a block, and says what follows it.
 fn emit_block(
     alloc: Global,
     code: &mut Items<Instr>,
     writer: &mut Writer<'_>,
     spot: CodePosition<'_>,
     number: u32,
-) -> Result<TableTail, NoMemory> {
-    let block = held(spot.around.body.blocks.get(number as usize))?;
+) -> Result<TableTail, Failure> {
+    let block = known(
+        spot.around.body.blocks.get(number as usize),
+        Invariant::CfgNumber,
+    )?;
     let turn = first_turn(spot, number)?;
     let decided = writer.emit_steps(alloc, code, &spot.around, number, block, turn)?;
     let here = EmitContext {
@@ -189,21 +195,21 @@ fn emit_block(
     }
 }
 
-/// What instruction a turn has that a block begins with: the jump where each way into the block is one, which holds of the
-/// dispatch targets but for the one that the body begins with.
-fn first_turn(spot: CodePosition<'_>, block: u32) -> Result<BackEdge, NoMemory> {
+/// What instruction a turn has that a block begins with: the jump where each edge into the block is one, which holds of the dispatch
+/// targets but for the one that the body begins with.
+fn first_turn(spot: CodePosition<'_>, block: u32) -> Result<BackEdge, Failure> {
     if block > 0 && spot.is_target(block)? {
         return Ok(BackEdge::Edge);
     }
     Ok(BackEdge::Nop)
 }
 
-/// Adds a jump to a block that is a dispatch target. The code of another one stands here.
+/// Emits a jump to a block that is a dispatch target. The code of another one is emitted here.
 fn emit_transfer(
     code: &mut Items<Instr>,
     spot: CodePosition<'_>,
     block: u32,
-) -> Result<TableTail, NoMemory> {
+) -> Result<TableTail, Failure> {
     if !spot.is_target(block)? {
         return Ok(TableTail::Block(block));
     }
@@ -211,14 +217,14 @@ fn emit_transfer(
     Ok(TableTail::Nothing)
 }
 
-/// Adds what follows the test of a branch: a jump for a side that is a dispatch target, so that the other side goes on here.
+/// Emits what follows the test of a branch: a jump for a side that is a dispatch target, so that the other side continues here.
 fn emit_branch(
     alloc: Global,
     code: &mut Items<Instr>,
     spot: CodePosition<'_>,
     yes: u32,
     no: u32,
-) -> Result<TableTail, NoMemory> {
+) -> Result<TableTail, Failure> {
     if spot.is_target(yes)? {
         emit_jump_where(alloc, code, spot, yes)?;
         return emit_transfer(code, spot, no);
@@ -231,13 +237,13 @@ fn emit_branch(
     Ok(TableTail::Sides { yes, no })
 }
 
-/// Adds a jump to a dispatch target, for where the test holds.
+/// Emits a jump to a dispatch target, for where the test holds.
 fn emit_jump_where(
     alloc: Global,
     code: &mut Items<Instr>,
     spot: CodePosition<'_>,
     target: u32,
-) -> Result<(), NoMemory> {
+) -> Result<(), Failure> {
     if let Some(label) = spot.label_of(target) {
         return Ok(code.push(Instr::BrIf(label))?);
     }
@@ -248,12 +254,12 @@ fn emit_jump_where(
     Ok(())
 }
 
-/// Adds a jump to a dispatch target: back to its own loop, or to the dispatch.
+/// Emits a jump to a dispatch target: back to its own loop, or to the dispatch.
 fn emit_jump_to(
     code: &mut Items<Instr>,
     spot: CodePosition<'_>,
     target: u32,
-) -> Result<(), NoMemory> {
+) -> Result<(), Failure> {
     match spot.label_of(target) {
         Some(label) => Ok(code.push(Instr::Br(label))?),
         None => emit_jump(code, &spot.around, target),

@@ -1,15 +1,14 @@
-//! The dispatch targets of a body: the blocks whose code is reached by a jump. The code of every other block stands behind the
-//! exit that leads to it.
+//! The dispatch targets of a body: the blocks whose code is reached by a jump. The code of every other block follows the terminator that
+//! leads to it.
 
 use crate::predecessors::Predecessors;
 use crate::sums::number;
+use failure::{Failure, Invariant, broken, known};
 use sa_cfg::{CfgBody, Terminator};
-use sa_templates::held;
 use sqlite_items::Items;
 use std::alloc::Global;
-use wa_syntax::NoMemory;
 
-/// How many branches may stand one inside the other in a superblock.
+/// How deep branches may nest in a superblock.
 pub(crate) const DEEPEST: u32 = 64;
 
 /// The dispatch targets of a body.
@@ -23,8 +22,7 @@ pub(crate) struct DispatchTargets {
     pub repeats: Items<bool>,
 }
 
-/// A block that has been placed: the number of the dispatch target to whose superblock it belongs, and in how many branches it
-/// stands there.
+/// A block that has been placed: the number of the dispatch target to whose superblock it belongs, and in how many branches it is there.
 #[derive(Clone, Copy, Debug)]
 struct BlockPlace {
     block: u32,
@@ -37,22 +35,22 @@ struct BlockPlace {
 struct Walk<'a> {
     predecessors: &'a [Predecessors],
     targets: DispatchTargets,
-    /// The blocks that have been placed, while those behind them haven't.
+    /// The blocks that have been placed, while those after them haven't.
     waiting: Items<BlockPlace>,
 }
 
-/// The dispatch targets of a body: its first block, the blocks that jumps lead to, and those that would stand too deep.
+/// The dispatch targets of a body: its first block, the blocks that jumps lead to, and those that would nest too deep.
 pub(crate) fn targets_of(
     alloc: Global,
     body: &CfgBody,
     predecessors: &[Predecessors],
-) -> Result<DispatchTargets, NoMemory> {
+) -> Result<DispatchTargets, Failure> {
     let mut walk = begun(alloc, predecessors)?;
     for _ in 0..body.blocks.len() {
         let Some(place) = walk.waiting.pop() else {
             break;
         };
-        let block = held(body.blocks.get(place.block as usize))?;
+        let block = known(body.blocks.get(place.block as usize), Invariant::CfgNumber)?;
         walk.go_on(&block.exit, place)?;
     }
     let Walk {
@@ -64,7 +62,7 @@ pub(crate) fn targets_of(
 }
 
 /// The dispatch targets that are known before any code is placed.
-fn begun(alloc: Global, predecessors: &[Predecessors]) -> Result<Walk<'_>, NoMemory> {
+fn begun(alloc: Global, predecessors: &[Predecessors]) -> Result<Walk<'_>, Failure> {
     let mut walk = Walk {
         predecessors,
         targets: DispatchTargets {
@@ -83,7 +81,7 @@ fn begun(alloc: Global, predecessors: &[Predecessors]) -> Result<Walk<'_>, NoMem
     Ok(walk)
 }
 
-/// Whether a block is a dispatch target wherever it would stand.
+/// Whether a block is a dispatch target wherever it would be placed.
 fn is_jumped_to(predecessors: Predecessors) -> bool {
     match predecessors {
         Predecessors::Entry => true,
@@ -94,8 +92,8 @@ fn is_jumped_to(predecessors: Predecessors) -> bool {
 }
 
 impl Walk<'_> {
-    /// Places the blocks behind a block.
-    fn go_on(&mut self, exit: &Terminator, from: BlockPlace) -> Result<(), NoMemory> {
+    /// Places the blocks after a block.
+    fn go_on(&mut self, exit: &Terminator, from: BlockPlace) -> Result<(), Failure> {
         match exit {
             Terminator::Jump(to) => self.place(*to, from, from.depth),
             Terminator::Branch { test: _, yes, no } => {
@@ -107,16 +105,16 @@ impl Walk<'_> {
         }
     }
 
-    /// In how many branches the side `yes` of a branch stands: in one more where neither side is a dispatch target.
-    fn depth_inside(&self, yes: u32, no: u32, depth: u32) -> Result<u32, NoMemory> {
+    /// In how many branches the side `yes` of a branch is: in one more where neither side is a dispatch target.
+    fn depth_inside(&self, yes: u32, no: u32, depth: u32) -> Result<u32, Failure> {
         if self.is_target(yes)? || self.is_target(no)? {
             return Ok(depth);
         }
         Ok(depth.saturating_add(1))
     }
 
-    /// Places a block behind another one in so many branches, unless it is a dispatch target.
-    fn place(&mut self, block: u32, from: BlockPlace, depth: u32) -> Result<(), NoMemory> {
+    /// Places a block after another one in so many branches, unless it is a dispatch target.
+    fn place(&mut self, block: u32, from: BlockPlace, depth: u32) -> Result<(), Failure> {
         if self.is_target(block)? {
             return self.add_jump(block, from.target);
         }
@@ -133,10 +131,10 @@ impl Walk<'_> {
     }
 
     /// The superblock of a dispatch target jumps to a dispatch target.
-    fn add_jump(&mut self, block: u32, target: u32) -> Result<(), NoMemory> {
+    fn add_jump(&mut self, block: u32, target: u32) -> Result<(), Failure> {
         let at = target as usize;
         if at >= self.targets.repeats.len() {
-            return Err(NoMemory);
+            return broken(Invariant::CfgNumber);
         }
         if self.targets.blocks.get(at) == Some(&block) {
             self.targets.repeats.set(at, true);
@@ -144,15 +142,15 @@ impl Walk<'_> {
         Ok(())
     }
 
-    fn is_target(&self, block: u32) -> Result<bool, NoMemory> {
-        Ok(is_jumped_to(*held(self.predecessors.get(block as usize))?))
+    fn is_target(&self, block: u32) -> Result<bool, Failure> {
+        Ok(is_jumped_to(*known(self.predecessors.get(block as usize), Invariant::CfgNumber)?))
     }
 
     /// A block is a dispatch target.
-    fn add_target(&mut self, block: u32) -> Result<(), NoMemory> {
+    fn add_target(&mut self, block: u32) -> Result<(), Failure> {
         let at = block as usize;
         if at >= self.targets.numbers.len() {
-            return Err(NoMemory);
+            return broken(Invariant::CfgNumber);
         }
         let target = number(self.targets.blocks.len())?;
         self.targets.numbers.set(at, Some(target));

@@ -1,35 +1,36 @@
-//! The trial whether a function holds a `br_table`, and which bodies ask for none.
+//! The verifier of functions: whether one contains a `br_table`, and which bodies ask for none.
 
 ghost use Rattle.std.specs.Prelude.{◌≡◌, false, IfOk};
 ghost use Rattle.wa_syntax.specs.Instructions.{instruction, sequence};
 ghost use Rattle.sa_emit.specs.Tables as are;
 
+use failure::{Failure, Invariant, broken};
 use sa_cfg::{BasicBlock, CfgBody, Terminator};
-use wa_syntax::{Func, Instr, NoMemory};
+use wa_syntax::{Func, Instr};
 
-/// How many blocks a body has at most whose shape is sure not to nest too deep: what a block has around what is further in is a loop
-/// and a condition, or a part.
+/// How many blocks a body has at most whose regions are sure not to nest too deep: what a block has around what is further in is a loop and
+/// a condition, or a labelled block.
 const FEW: usize = 150;
 
-/// The function of a body, which has a shape or hasn't.
+/// The function of a body, which has structured regions or hasn't.
 ///
 /// # Errors
 ///
-/// `NoMemory` where it holds a `br_table` that the body doesn't ask for.
-pub(crate) fn tried(body: &CfgBody, is_shaped: bool, func: Func) -> Result<Func, NoMemory>
+/// `Broken` where it holds a `br_table` that the body doesn't ask for.
+pub(crate) fn tried(body: &CfgBody, is_shaped: bool, func: Func) -> Result<Func, Failure>
     ensures { IfOk result (λ func. are.IsFunctionOf body.now func) }
 {
     if asks_for_table(body, is_shaped) {
         return Ok(func);
     }
     if has_table(&func) {
-        return Err(NoMemory);
+        return broken(Invariant::DispatchLeft);
     }
     Ok(func)
 }
 
-/// Whether the function of a body may hold a `br_table`: the body is suspended, or has no shape and so many blocks that it may nest
-/// too deep for one.
+/// Whether the function of a body may contain a `br_table`: the body is suspended, or has no structured regions and so many blocks that it
+/// may nest too deep for them.
 fn asks_for_table(body: &CfgBody, is_shaped: bool) -> bool
     ensures { are.IsPlain body.now → are.HasFewBlocks body.now → result ≡ false }
 {
@@ -42,7 +43,7 @@ fn asks_for_table(body: &CfgBody, is_shaped: bool) -> bool
     true
 }
 
-/// Whether a body goes on behind one of the blocks once it is resumed.
+/// Whether a body continues after one of the blocks once it is resumed.
 #[tactic(auto, using(crate::proofs::Holding::held))]
 fn are_resumed(blocks: &[BasicBlock]) -> bool
     ensures { result ≡ are.are_resumed blocks.now }
@@ -55,7 +56,7 @@ fn are_resumed(blocks: &[BasicBlock]) -> bool
     false
 }
 
-/// Whether a body goes on in a block behind an exit once it is resumed.
+/// Whether a body continues in a block after a terminator once it is resumed.
 fn is_resumed(exit: &Terminator) -> bool
     ensures { result ≡ are.is_resumed exit.now }
 {
@@ -65,7 +66,7 @@ fn is_resumed(exit: &Terminator) -> bool
     }
 }
 
-/// Whether one of the functions holds a `br_table`.
+/// Whether one of the functions contains a `br_table`.
 #[tactic(auto, using(crate::proofs::Holding::held))]
 pub(crate) fn have_table(funcs: &[Func]) -> bool
     ensures { result ≡ are.have_table funcs.now }
@@ -78,14 +79,14 @@ pub(crate) fn have_table(funcs: &[Func]) -> bool
     false
 }
 
-/// Whether a function holds a `br_table`.
+/// Whether a function contains a `br_table`.
 pub(crate) fn has_table(func: &Func) -> bool
     ensures { result ≡ are.has_table func.now }
 {
     holds_table(func.body.as_slice())
 }
 
-/// Whether code holds a `br_table`, also inside its blocks.
+/// Whether code contains a `br_table`, also inside its blocks.
 #[tactic(auto, using(crate::proofs::Holding::held))]
 #[cycle(holding)]
 fn holds_table(code: &[Instr]) -> bool

@@ -1,7 +1,8 @@
 //! Classes and their headers: E08, E10, E12, E13, E19, E24; and their features: E11, E16, E20, E22.
 
 use crate::library::library_file;
-use sa_ast::{Class, ClassKind, Feature, FeatureBody as FeaturePart, NoMemory, Rule, Ty};
+use failure::Failure;
+use sa_ast::{Class, ClassKind, Feature, FeatureBody as FeaturePart, Rule, Ty};
 use sa_diagnostics::{
     Message, MessagePart, Quality, SourceContext, class_near, count_in, feature_in, feature_near,
     plain_name,
@@ -9,12 +10,12 @@ use sa_diagnostics::{
 use sa_lexer::{Sign, TokenKind};
 use std::alloc::AllocError;
 
-/// Says what is wrong with the class at the place.
+/// Says what is wrong with the class at the position.
 pub(crate) fn about_class(
     scene: SourceContext<'_>,
     rule: Rule,
     said: &mut Message,
-) -> Result<(), NoMemory> {
+) -> Result<(), Failure> {
     match rule {
         Rule::WordNotTaken => refused_word(scene, said)?,
         Rule::ClassDefinedTwice => defined_twice(scene, said)?,
@@ -26,12 +27,12 @@ pub(crate) fn about_class(
     Ok(())
 }
 
-/// Says what is wrong with the feature at the place.
+/// Says what is wrong with the feature at the position.
 pub(crate) fn about_features(
     scene: SourceContext<'_>,
     rule: Rule,
     said: &mut Message,
-) -> Result<(), NoMemory> {
+) -> Result<(), Failure> {
     match rule {
         Rule::FeaturesConflict => conflict(scene, said)?,
         Rule::NoSuchIncludedFeature => no_such_change(scene, said)?,
@@ -51,7 +52,7 @@ fn refused_word(scene: SourceContext<'_>, said: &mut Message) -> Result<(), Allo
     said.say_words("Choose another name.")
 }
 
-/// A class whose name another one has.
+/// A class that has the name of another one.
 fn defined_twice(scene: SourceContext<'_>, said: &mut Message) -> Result<(), AllocError> {
     let name = scene.name();
     let Some(first) = scene.table.class(name) else {
@@ -76,7 +77,7 @@ fn defined_twice(scene: SourceContext<'_>, said: &mut Message) -> Result<(), All
     said.say_words("Give this class another name.")
 }
 
-/// The class that is meant at the place: behind `#`, before `::`, or there.
+/// The class that is meant at the position: after `#`, before `::`, or at the position itself.
 fn class_token(scene: SourceContext<'_>) -> usize {
     if scene.tokens.is_sign(scene.at, Sign::Hash) {
         return scene.at.saturating_add(1);
@@ -87,7 +88,7 @@ fn class_token(scene: SourceContext<'_>) -> usize {
     scene.at
 }
 
-/// A type whose class isn't there, or can't stand there.
+/// A type whose class doesn't exist, or isn't allowed there.
 fn not_usable(scene: SourceContext<'_>, said: &mut Message) -> Result<(), AllocError> {
     let at = class_token(scene);
     let name = scene.tokens.bytes(at);
@@ -104,7 +105,7 @@ fn not_usable(scene: SourceContext<'_>, said: &mut Message) -> Result<(), AllocE
     }
 }
 
-/// A class that is there, and can't stand at the place.
+/// A class that exists, and isn't allowed at the position.
 fn kept_out(scene: SourceContext<'_>, class: &Class, said: &mut Message) -> Result<(), AllocError> {
     let name = class.name.name.as_slice();
     match class.kind {
@@ -169,7 +170,7 @@ fn unknown_class<'a>(
     }
 }
 
-/// What stands here for a class of another language.
+/// The class of this language that corresponds to a class of another one.
 fn known_elsewhere(name: &[u8]) -> Option<&'static str> {
     Some(match name {
         b"STRING" => "A text is a STR.",
@@ -193,7 +194,7 @@ fn known_elsewhere(name: &[u8]) -> Option<&'static str> {
     })
 }
 
-/// A type with too many or too few parameters.
+/// A type with too many or too few type arguments.
 fn parameter_count(scene: SourceContext<'_>, said: &mut Message) -> Result<(), AllocError> {
     let at = class_token(scene);
     let Some(class) = scene.table.class(scene.tokens.bytes(at)) else {
@@ -306,7 +307,7 @@ fn main_of_another_form(
     said.say_words("Write `main is` or `main:INT is`.")
 }
 
-/// A feature that another one of its class can't be told from.
+/// A feature that can't be distinguished from another one of its class.
 fn conflict(scene: SourceContext<'_>, said: &mut Message) -> Result<(), AllocError> {
     let Some(class) = scene.table.class_at(scene.pos) else {
         return Ok(());
@@ -333,7 +334,7 @@ fn conflict(scene: SourceContext<'_>, said: &mut Message) -> Result<(), AllocErr
     )
 }
 
-/// A change of a feature that isn't there.
+/// A renaming of a feature that doesn't exist.
 fn no_such_change(scene: SourceContext<'_>, said: &mut Message) -> Result<(), AllocError> {
     let from_iter = matches!(scene.tokens.kind(scene.at), Some(TokenKind::IterName));
     let to = scene.at.saturating_add(2);
@@ -383,7 +384,7 @@ fn stub_left(scene: SourceContext<'_>, said: &mut Message) -> Result<(), AllocEr
     ])
 }
 
-/// A class that lacks a feature of an abstract one above it.
+/// A class that lacks a feature of an abstract supertype.
 fn lacking_feature(scene: SourceContext<'_>, said: &mut Message) -> Result<(), AllocError> {
     let Some(class) = scene.table.class(scene.name()) else {
         return Ok(());
@@ -402,7 +403,7 @@ fn lacking_feature(scene: SourceContext<'_>, said: &mut Message) -> Result<(), A
     Ok(())
 }
 
-/// The first signature of a class above for which a class writes no feature of its name, or one of another form alone.
+/// The first signature of a supertype for which a class writes no feature with its name, or only one of another form.
 fn first_lacking<'a>(class: &Class, above: &'a Class) -> Option<&'a Feature> {
     above
         .features

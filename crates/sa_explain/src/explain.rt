@@ -5,13 +5,12 @@ ghost use Rattle.std.specs.Prelude.{◌↔◌, ◌<◌, All, IsTrue, length};
 use crate::classes::{about_class, about_features};
 use crate::faults::about_fault;
 use crate::general::{Advice, of_rule};
-use sa_ast::{Class, FaultKind, NoMemory, Pos, Refusal, Rule, Sources};
+use failure::Failure;
+use sa_ast::{Class, FaultKind, Pos, Refusal, Rule, Sources};
 use sa_diagnostics::{
-    Declarations, Message, MessagePart, Sentences, SourceContext, Span, TokenView, line_in,
-    open_blocks_before, put_marked,
+    Declarations, Message, MessagePart, Sentences, SourceContext, Span, TokenView, about_body,
+    about_bytes, line_in, open_blocks_before, put_marked, unexpected,
 };
-use sa_explain_bodies::about_body;
-use sa_explain_grammar::{about_bytes, unexpected};
 use sa_lexer::{Token, lex};
 use sa_read::{ParsedFiles, parse_program};
 use sa_typed::TypedProgram;
@@ -21,12 +20,13 @@ use std::alloc::Global;
 /// The greatest number of bytes that a text may have to be explained.
 const MOST_BYTES: usize = 4_294_967_294;
 
-/// How many refusals behind the first one are explained. Each takes a walk over its text.
+/// The greatest number of refusals after the first one that are explained. Each takes a walk over its text.
 const MOST_FURTHER: usize = 199;
 
-/// What the refusals of a program with these texts mean: of each the line of the place with the place marked, a sentence about what is
-/// wrong there, and what to do. Nothing where the position is in none of the texts. Where there are further ones behind the first,
-/// each explanation stands below an empty line and one with the rule and the place, and of more than 200 the last ones are counted.
+/// What the refusals of a program with these texts mean: for each the line of its position with the position marked, a sentence about
+/// what is wrong there, and what to do. No bytes where the position is in none of the texts. Where there are further refusals after the
+/// first, each explanation follows an empty line and one with the rule and the position, and where there are more than 200 the last ones
+/// are only counted.
 ///
 /// # Errors
 ///
@@ -36,7 +36,7 @@ pub fn explain_refusals(
     sources: &Sources,
     first: Refusal,
     further: &[Refusal],
-) -> Result<Vec<u8>, NoMemory> {
+) -> Result<Vec<u8>, Failure> {
     let classes = classes_of(alloc, sources)?;
     let table = Declarations {
         classes: classes.as_slice(),
@@ -55,12 +55,12 @@ pub fn explain_refusals(
     Ok(lines)
 }
 
-/// What a refusal means, below an empty line and one with its rule and its place.
+/// What a refusal means, after an empty line and one with its rule and its position.
 fn below_head(
     alloc: Global,
     table: Declarations<'_>,
     refusal: Refusal,
-) -> Result<Vec<u8>, NoMemory> {
+) -> Result<Vec<u8>, Failure> {
     let mut head = Sentences::new(alloc);
     head.say_words("")?;
     head.say(&[
@@ -77,8 +77,8 @@ fn below_head(
     Ok(lines)
 }
 
-/// What is said of so many refusals that aren't explained.
-fn left_out(alloc: Global, count: usize) -> Result<Vec<u8>, NoMemory> {
+/// The sentence about so many refusals that aren't explained.
+fn left_out(alloc: Global, count: usize) -> Result<Vec<u8>, Failure> {
     let mut said = Sentences::new(alloc);
     if count > 0 {
         said.say_words("")?;
@@ -97,7 +97,7 @@ fn of_refusal(
     alloc: Global,
     table: Declarations<'_>,
     refusal: Refusal,
-) -> Result<Vec<u8>, NoMemory> {
+) -> Result<Vec<u8>, Failure> {
     let Some(text) = table.sources.texts.get(refusal.pos.file as usize) else {
         return Ok(Vec::new(alloc));
     };
@@ -107,7 +107,8 @@ fn of_refusal(
 }
 
 /// What a fault of this kind at a position means, in the same form. Where the position is in the prelude, the feature there is named.
-/// Where the typed tree is given, the lines are told from which that place can be come to, and of an uncaught exception its type.
+/// Where the typed AST is given, the explanation has the lines from which that position can be reached, and the type of an uncaught
+/// exception.
 ///
 /// # Errors
 ///
@@ -118,7 +119,7 @@ pub fn explain_fault(
     core: Option<&TypedProgram>,
     kind: FaultKind,
     pos: Pos,
-) -> Result<Vec<u8>, NoMemory> {
+) -> Result<Vec<u8>, Failure> {
     let Some(text) = sources.texts.get(pos.file as usize) else {
         return Ok(Vec::new(alloc));
     };
@@ -135,21 +136,21 @@ pub fn explain_fault(
     shown(alloc, text, &said)
 }
 
-/// The marked line, and behind it what is said.
-fn shown(alloc: Global, text: &[u8], said: &Message) -> Result<Vec<u8>, NoMemory> {
+/// The marked line, and after it the sentences of the message.
+fn shown(alloc: Global, text: &[u8], said: &Message) -> Result<Vec<u8>, Failure> {
     let mut lines = Vec::new(alloc);
     put_marked(&mut lines, text, line_in(text, said.mark.start), said.mark)?;
     lines.extend_from_slice(said.sentences.text.as_slice())?;
     Ok(lines)
 }
 
-/// What is said of a refusal at a place of this text.
+/// The message on a refusal at a position of this text.
 fn said_of_refusal(
     alloc: Global,
     table: Declarations<'_>,
     text: &[u8],
     refusal: Refusal,
-) -> Result<Message, NoMemory> {
+) -> Result<Message, Failure> {
     let mut said = match refusal.rule {
         Rule::BadByte
         | Rule::LiteralNotEnded
@@ -176,20 +177,20 @@ fn one_byte(pos: Pos) -> Span {
     }
 }
 
-/// What is said of bytes that are no tokens.
-fn of_bytes(alloc: Global, text: &[u8], refusal: Refusal) -> Result<Message, NoMemory> {
+/// The message on bytes that begin no token.
+fn of_bytes(alloc: Global, text: &[u8], refusal: Refusal) -> Result<Message, Failure> {
     let mut said = Message::new(alloc, one_byte(refusal.pos));
     about_bytes(text, refusal, &mut said)?;
     Ok(said)
 }
 
-/// What is said of a refusal of a text that has tokens.
+/// The message on a refusal of a text that has tokens.
 fn of_tokens(
     alloc: Global,
     table: Declarations<'_>,
     text: &[u8],
     refusal: Refusal,
-) -> Result<Message, NoMemory> {
+) -> Result<Message, Failure> {
     let tokens = tokens_of(alloc, text, refusal.pos.file)?;
     let scene = scene_of(alloc, text, tokens.as_slice(), refusal.pos, table)?;
     let mut said = Message::new(alloc, scene.span(scene.at));
@@ -197,14 +198,14 @@ fn of_tokens(
     Ok(said)
 }
 
-/// The place in its text, with what is around it.
+/// The context of a position in its text.
 fn scene_of<'a>(
     alloc: Global,
     text: &'a [u8],
     list: &'a [Token],
     pos: Pos,
     table: Declarations<'a>,
-) -> Result<SourceContext<'a>, NoMemory> {
+) -> Result<SourceContext<'a>, Failure> {
     let tokens = TokenView { list, src: text };
     let at = tokens.number_at(pos.at as usize);
     let opened = open_blocks_before(alloc, tokens, at)?;
@@ -222,8 +223,8 @@ fn scene_of<'a>(
     })
 }
 
-/// The tokens of a text, or none where it has none.
-fn tokens_of(alloc: Global, text: &[u8], file: u32) -> Result<Vec<Token>, NoMemory> {
+/// The tokens of a text, or none where it is too long or has a lexical error.
+fn tokens_of(alloc: Global, text: &[u8], file: u32) -> Result<Vec<Token>, Failure> {
     if text.len() > MOST_BYTES {
         return Ok(Vec::new(alloc));
     }
@@ -233,8 +234,8 @@ fn tokens_of(alloc: Global, text: &[u8], file: u32) -> Result<Vec<Token>, NoMemo
     }
 }
 
-/// The classes of a program, or none where its texts have no grammar.
-fn classes_of(alloc: Global, sources: &Sources) -> Result<Items<Class>, NoMemory> {
+/// The classes of a program, or none where its texts are too long or don't parse.
+fn classes_of(alloc: Global, sources: &Sources) -> Result<Items<Class>, Failure> {
     let texts = sources.texts.as_slice();
     if !are_short(texts) || texts.len() > MOST_BYTES {
         return Ok(Items::new(alloc));
@@ -264,8 +265,8 @@ fn is_short(text: &Items<u8>) -> bool
     text.len() <= MOST_BYTES
 }
 
-/// What is said of a rule that is broken at the place.
-fn about_rule(scene: SourceContext<'_>, rule: Rule, said: &mut Message) -> Result<(), NoMemory> {
+/// Says what is known about a rule that is broken at the position.
+fn about_rule(scene: SourceContext<'_>, rule: Rule, said: &mut Message) -> Result<(), Failure> {
     match rule {
         Rule::UnexpectedToken => unexpected(scene, said),
         Rule::WordNotTaken

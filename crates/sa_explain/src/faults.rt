@@ -1,23 +1,24 @@
-//! Faults: what went wrong where a program stopped, and what of the prelude it was in.
+//! Faults: what went wrong where a program stopped, and which feature of the prelude it was in.
 
 use crate::general::{Advice, of_fault};
 use crate::ways::tell_ways;
-use sa_ast::{FaultKind, NoMemory, Ty};
+use crate::{lines_to, raised_type};
+use failure::Failure;
+use sa_ast::{FaultKind, Ty};
 use sa_diagnostics::{Message, MessagePart, SourceContext, TokenView};
-use sa_explain_calls::{lines_to, raised_type};
 use sa_lexer::{Sign, TokenKind};
+use sa_subst::is_abstract;
 use sa_typed::TypedProgram;
-use sa_types::is_abstract;
 use std::alloc::AllocError;
 
-/// Says what a kind of fault means, and where the place is in the prelude which feature it is in and, by the typed tree, which lines lead
+/// Says what a kind of fault means, and for a position in the prelude which feature it is in and, by the typed AST, which lines lead
 /// there.
 pub(crate) fn about_fault(
     scene: SourceContext<'_>,
     core: Option<&TypedProgram>,
     kind: FaultKind,
     said: &mut Message,
-) -> Result<(), NoMemory> {
+) -> Result<(), Failure> {
     let Advice { wrong, remedy } = of_fault(kind);
     said.say_words(wrong)?;
     if scene.pos.file == 0 {
@@ -30,7 +31,7 @@ pub(crate) fn about_fault(
     Ok(())
 }
 
-/// Names the feature of the prelude that the place is in.
+/// Names the feature of the prelude that the position is in.
 fn in_prelude(scene: SourceContext<'_>, said: &mut Message) -> Result<(), AllocError> {
     let Some((class, feature)) = scene.table.feature_at(scene.pos) else {
         return Ok(());
@@ -46,12 +47,12 @@ fn in_prelude(scene: SourceContext<'_>, said: &mut Message) -> Result<(), AllocE
     ])
 }
 
-/// Tells the lines from which the place in the prelude can be come to.
+/// Reports the lines from which the position in the prelude can be reached.
 fn ways_there(
     scene: SourceContext<'_>,
     core: Option<&TypedProgram>,
     said: &mut Message,
-) -> Result<(), NoMemory> {
+) -> Result<(), Failure> {
     if let Some(core) = core {
         let lines = lines_to(scene.alloc, core, scene.pos)?;
         tell_ways(scene, lines.as_slice(), said)?;
@@ -78,7 +79,7 @@ fn of_program(
     core: Option<&TypedProgram>,
     kind: FaultKind,
     said: &mut Message,
-) -> Result<(), NoMemory> {
+) -> Result<(), Failure> {
     match kind {
         FaultKind::Void => {
             match void_variable(scene.tokens, scene.at) {
@@ -118,7 +119,7 @@ fn in_create(scene: SourceContext<'_>, said: &mut Message) -> Result<(), AllocEr
     )
 }
 
-/// The name before the `.` of a call, or of an assignment, at a token, where nothing stands before it.
+/// The name before the `.` of a call, or of an assignment, at a token, where nothing is before the name.
 fn void_variable(tokens: TokenView<'_>, at: usize) -> Option<usize> {
     let called = if tokens.is_sign(at, Sign::Assign) {
         at.checked_sub(1)?
@@ -134,7 +135,7 @@ fn void_variable(tokens: TokenView<'_>, at: usize) -> Option<usize> {
     is_plain.then_some(name)
 }
 
-/// The text behind the `raise` at a token, where nothing is done with it.
+/// The text after the `raise` at a token, where nothing is done with it.
 fn text_raised(tokens: TokenView<'_>, at: usize) -> Option<usize> {
     let text = at.saturating_add(1);
     let is_text = matches!(tokens.kind(text), Some(TokenKind::Text(_)))
@@ -142,12 +143,12 @@ fn text_raised(tokens: TokenView<'_>, at: usize) -> Option<usize> {
     is_text.then_some(text)
 }
 
-/// Tells the type of the value that is raised at the place.
+/// Reports the type of the value that is raised at the position.
 fn value_raised(
     scene: SourceContext<'_>,
     core: Option<&TypedProgram>,
     said: &mut Message,
-) -> Result<(), NoMemory> {
+) -> Result<(), Failure> {
     let Some(core) = core else {
         return Ok(());
     };

@@ -1,13 +1,13 @@
-//! The lines of the program's own from which a place of the prelude can be come to.
+//! The lines of the program itself from which a position in the prelude can be reached.
 
+use crate::Line;
 use sa_diagnostics::{Declarations, Message, MessagePart, SourceContext};
-use sa_explain_calls::Line;
 use std::alloc::AllocError;
 
-/// How many lines are told.
+/// The greatest number of lines that are reported.
 const MOST_LINES: usize = 5;
 
-/// Tells which line led to the place, or one of which.
+/// Reports which line led to the position, or that it was one of several.
 pub(crate) fn tell_ways(
     scene: SourceContext<'_>,
     lines: &[Line],
@@ -50,7 +50,7 @@ fn put_lines<'a>(
     Ok(())
 }
 
-/// Adds the line at a place of the list.
+/// Adds the line with an index in the list.
 fn put_line<'a>(
     parts: &mut Vec<MessagePart<'a>>,
     table: Declarations<'a>,
@@ -72,7 +72,7 @@ fn put_line<'a>(
     Ok(())
 }
 
-/// What stands before a line: a comma or `and`, by whether it begins or ends those of its file.
+/// The text before a line: a comma or `and`, by whether the line begins or ends those of its file.
 fn words_between(lines: &[Line], at: usize, file: u32, begins: bool, ends: bool) -> &'static str {
     if at == 0 {
         ""
@@ -89,7 +89,7 @@ fn words_between(lines: &[Line], at: usize, file: u32, begins: bool, ends: bool)
     }
 }
 
-/// Whether the line at a place of the list is in a file.
+/// Whether the line with an index in the list is in a file.
 fn is_in_file(lines: &[Line], at: usize, file: u32) -> bool {
     match lines.get(at) {
         Some(line) => line.file == file,

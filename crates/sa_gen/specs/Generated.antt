@@ -5,15 +5,15 @@ use Rattle.std.specs.Prelude.{ℕ, zero, suc, ◌-◌, List, [], ◌++◌, codes
 abbrev pub first : List ℕ
 first = codes "class C0 is it!(once n:INT):INT is loop yield 1.upto!(n); end; end; end;\n"
 
--- what stands behind the name of a class whose iter calls that of the class with this number
+-- the text after the name of a class whose iter calls that of the class with this number
 abbrev pub call : ℕ → List ℕ
 call before = codes " is it!(once n:INT):INT is loop yield C" ++ decimal before ++ codes "::it!(n) + 1; end; end; end;\n"
 
--- the line of the class behind the one with this number, whose iter gives one more than that one's
+-- the line of the class after the one with this number, whose iter gives one more than that one's
 abbrev pub link : ℕ → List ℕ
 link before = codes "class C" ++ decimal (suc before) ++ call before
 
--- the lines of so many classes behind the first one
+-- the lines of so many classes after the first one
 abbrev pub links : ℕ → List ℕ
 links zero = []
 links (suc before) = links before ++ link before

@@ -1,8 +1,7 @@
-//! The text of a generated program: classes in a row, each with an iter that calls the one before.
+//! The text of a generated program: a sequence of classes, each with an iter that calls the one before.
 #![tactic(auto)]
 
 mod lines;
-mod no_memory;
 
+pub use failure::NoMemory;
 pub use lines::{add_numbered, generate};
-pub use no_memory::NoMemory;

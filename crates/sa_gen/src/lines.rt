@@ -3,7 +3,7 @@
 ghost use Rattle.std.specs.Prelude.{◌≡◌, ◌<◌, ◌++◌, decimal, IfOk, OnOk};
 ghost use Rattle.sa_gen.specs.Generated.{call, generated, link, main};
 
-use crate::no_memory::NoMemory;
+use failure::NoMemory;
 use itoa::Buffer;
 use std::alloc::{AllocError, Global};
 
@@ -28,7 +28,7 @@ pub fn generate(alloc: Global, n: u32) -> Result<Vec<u8>, NoMemory>
     Ok(text)
 }
 
-/// Adds the line of the class behind the one with this number, whose iter gives one more than that one's.
+/// Adds the line of the class after the one with this number, whose iter gives one more than that one's.
 fn add_link(text: &mut Vec<u8>, before: u32) -> Result<(), NoMemory>
     requires { before < 4294967295 }
     ensures { OnOk result (text.new.items ≡ text.old.items ++ link before) }
@@ -37,7 +37,7 @@ fn add_link(text: &mut Vec<u8>, before: u32) -> Result<(), NoMemory>
     add_call(text, before)
 }
 
-/// Adds what stands behind the name of a class whose iter calls that of the class with this number.
+/// Adds the text after the name of a class whose iter calls that of the class with this number.
 fn add_call(text: &mut Vec<u8>, before: u32) -> Result<(), NoMemory>
     ensures { OnOk result (text.new.items ≡ text.old.items ++ call before) }
 {

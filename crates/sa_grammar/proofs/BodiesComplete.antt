@@ -1,4 +1,4 @@
--- The forms of statements that hold others are complete, and so are those of lists of statements.
+-- The forms of statements that contain others are complete, and so are those of lists of statements.
 use Rattle.std.proofs.Common.{◌≡◌, ℕ, suc, ◌+◌, ◌<◌, List, [], ◌∷◌, ◌++◌, length, refl, sym, subst, append_assoc, arith, length-append, Option, unwrap_or}
 use Rattle.sa_lexer.specs.declared.sign.Sign.TheVariants as sign
 use Rattle.sa_lexer.specs.declared.word.Word.{Word}
@@ -99,7 +99,7 @@ module _ (level : ℕ) (nested : (n : Nested) → Reader (Ast n))
       (λ l tail when. kind_ends after_stmts l tail (word_stands word.When l when).kind refl) (ms ++ rest) (branches_behind one h) (omega arith)
       (ending_ends after_stmts refl refl rest k) (ending_ends (is_word_kind word.When) refl refl rest k))
 
-  -- a value, or statements, in front of arms and an ending
+  -- a value, or statements, before arms and an ending
   value_at : (ls : List Lexeme) (e : Expr) (ms os rest : List Lexeme) → IsValue ls e → length ls < level → Ends after_expr (ms ++ (os ++ rest))
       → Reads level nested value_form (ls ++ ((ms ++ os) ++ rest)) e ((ms ++ os) ++ rest)
   value_at ls e ms os rest h small ends = value_read level nested inside ls e ((ms ++ os) ++ rest) h small (subst (Ends after_expr) (sym (append_assoc ms os rest)) ends)

@@ -75,7 +75,7 @@ class_lists (classes.IsFile.more {classes = first} one is others) =
 
 -- ---- what ends the parts, and what they begin with
 
--- behind a parameter
+-- after a parameter
 abbrev after_param : TokenKind → Bool
 after_param k = is_sign_kind sign.Less k || goes_on_type k
 
@@ -118,7 +118,7 @@ class_shut : (file_kind : FileKind) (rest : List Lexeme) → Ends begins_class r
 unfolding class_form concrete_form
 class_shut file_kind rest h = h
 
--- an invariant may stand where there is none yet
+-- an invariant is allowed where there is none yet
 fits_next : (all : List Condition) (n : ℕ) → length all + n ≤ 1 → n ≤ most (is_empty all)
 fits_next [] n few = omega arith
 fits_next (c ∷ all) n few = omega arith
@@ -128,7 +128,7 @@ next_fits all others few = let sum = count_append all others in fits_next (flat_
 
 module _ (level : ℕ) (nested : (n : Nested) → Reader (Ast n))
     (inside : (n : Nested) (ls : List Lexeme) (t : Ast n) (rest : List Lexeme) → Spells n ls t → length ls < level → EndsOf n rest → nested n (ls ++ rest) ≡ Read t rest) where
-  -- ---- heads
+  -- ---- headers
 
   param_read : (ls : List Lexeme) (p : TypeParam) (rest : List Lexeme) → IsParam ls p → length ls < level → Ends after_param rest → Reads level nested param_form (ls ++ rest) p rest
   unfolding param_form
@@ -156,7 +156,7 @@ module _ (level : ℕ) (nested : (n : Nested) → Reader (Ast n))
       reads-met (sign_met is)
       (reads-list level nested IsType EndsType (nest type) (nest_read level nested inside type) (sign_ends sign.Comma refl refl) rest (types_separated h) (omega arith) ends comma)
 
-  -- in front of `is`
+  -- before `is`
   abstract_head_read : {hs : List Lexeme} {head : Head} (w : Lexeme) (rest : List Lexeme) → IsAbstractHead hs head → length hs < suc level → IsWord word.Is w
       → Reads level nested abstract_head_form (hs ++ w ∷ rest) head (w ∷ rest)
   unfolding abstract_head_form
@@ -191,7 +191,7 @@ module _ (level : ℕ) (nested : (n : Nested) → Reader (Ast n))
       (types_after_read sign.Less (w ∷ rest) k (omega arith) (kind_ends (is_sign_kind sign.Less) w rest is.kind refl) (is_ends_type w rest is)
       (kind_ends (is_sign_kind sign.Comma) w rest is.kind refl)))))
 
-  -- ---- insides
+  -- ---- bodies of classes
 
   optional_sig_read : (ls : List Lexeme) (all : List Feature) (rest : List Lexeme) → IsOptionalSignature ls all → length ls < suc level → IsClosed rest
       → Reads level nested optional_sig_form (ls ++ rest) all rest
@@ -217,7 +217,7 @@ module _ (level : ℕ) (nested : (n : Nested) → Reader (Ast n))
       reads-first (meets_front (opens (member_form class invariants)) ls rest (member_opens class invariants h.is h.count))
       (reads-make (member_read level nested inside class invariants rest h.is h.count small closed))
 
-  -- the turns of members
+  -- the iterations of members
   abbrev Turns : Enclosing → List Lexeme → List Declaration → Type 0
   Turns class ls all =
       Gathers level nested IsClosed (optional_member_form class true) (is_sign sign.Semicolon) (λ all _. make (λ more. all ++ more) (optional_member_form class (none_yet all))) ls all

@@ -57,7 +57,7 @@ pub record IsFew (class : Enclosing) (ls : List Lexeme) (all : List Declaration)
   pub are : IsMembers class ls all
   pub few : count all ≤ 1
 
--- a member or none, where an invariant may stand or not
+-- a member or none, where an invariant is allowed or not
 pub data IsOptionalMember (class : Enclosing) (invariants : Bool) : List Lexeme → List Declaration → Type 0 where
   absent : IsOptionalMember class invariants [] []
   given : {ls : List Lexeme} {m : Declaration} → IsCounted class invariants ls m → IsOptionalMember class invariants ls (m ∷ [])
@@ -70,7 +70,7 @@ count_of : {class : Enclosing} {invariants : Bool} {ls : List Lexeme} {all : Lis
 count_of absent = omega arith
 count_of (given {m = m} h) = let one = count_one m in let fits = h.count in omega arith
 
--- members behind others
+-- members after others
 members_more : {class : Enclosing} {ls ms : List Lexeme} {l : Lexeme} {all others : List Declaration} → IsMembers class ls all → IsSign sign.Semicolon l → IsMembers class ms others
     → IsMembers class (ls ++ l ∷ ms) (all ++ others)
 members_more classes.nothing is h = classes.empty is h
@@ -95,7 +95,7 @@ few_first h = record { are = members_of h; few = count_of h }
 
 -- ---- classes
 
--- a class that isn't abstract, behind the word of its kind
+-- a class that isn't abstract, after the word of its kind
 pub data IsConcrete (file_kind : FileKind) (kind : ClassKind) : List Lexeme → Written → Type 0 where
   concrete : {w is closing : Lexeme} {hs ls : List Lexeme} {head : Head} {members : List Declaration} → IsWord word.Class w → IsConcreteHead hs head → IsWord word.Is is
       → IsFew (record { name = head.name.name; kind = kind; file_kind = file_kind }) ls members → IsWord word.End closing
@@ -161,7 +161,7 @@ no_signatures : IsSignatures [] []
 no_signatures = classes.IsSignatures.last classes.IsOptionalSignature.absent
 
 module _ (level : ℕ) (nested : (n : Nested) → Reader (Ast n)) (inside : (n : Nested) → Sound (Spells n) (nested n)) where
-  -- ---- heads
+  -- ---- headers
 
   sound_param : IsSound level nested IsParam param_form
   unfolding param_form
@@ -201,7 +201,7 @@ module _ (level : ℕ) (nested : (n : Nested) → Reader (Ast n)) (inside : (n :
       sound-make (sound_types_after sign.Less) (λ bs below k. classes.concrete_head (class_name_stands c is) h k)))
       (sound-refuse (record { more = lexeme token.ClassName ∷ []; tree = head_of (lexeme token.ClassName); spelled = a_concrete_head }))
 
-  -- ---- insides
+  -- ---- bodies of classes
 
   sound_optional_sig : IsSound level nested IsOptionalSignature optional_sig_form
   unfolding optional_sig_form

@@ -1,4 +1,4 @@
--- Complete forms: what lexemes spell is read of them where the next lexeme doesn't go on with it. A lemma for each way to make forms.
+-- Complete forms: what lexemes spell is read of them where the next lexeme doesn't continue it. A lemma for each way to make forms.
 use Rattle.std.proofs.Common.{◌≡◌, ℕ, zero, suc, ◌+◌, ◌<◌, ◌≤◌, Bool, true, List, [], ◌∷◌, ◌++◌, length, refl, sym, ap, ◌∙◌, append_assoc, arith, length-append}
 use Rattle.sa_lexer.specs.declared.token.TokenKind.{TokenKind}
 use Rattle.sa_lexer.specs.declared.sign.Sign.{Sign}
@@ -15,7 +15,7 @@ use Rattle.sa_parser_expr.proofs.Shifts.{Shut, Meets, shifted_met, shifted_shut,
 use Rattle.sa_grammar.proofs.Sound.{Separated, last, more, Listed}
 
 module _ (level : ℕ) (nested : (n : Nested) → Reader (Ast n)) where
-  -- a form reads a tree of these lexemes, and leaves those
+  -- a form reads an AST of these lexemes, and leaves those
   pub record Reads {A : Type 0} (form : Form A) (ls : List Lexeme) (a : A) (rest : List Lexeme) : Type 0 where
     pub is : run level nested form ls ≡ Read a rest
 
@@ -115,7 +115,7 @@ module _ (level : ℕ) (nested : (n : Nested) → Reader (Ast n)) {A : Type 0} (
 
 module _ (level : ℕ) (nested : (n : Nested) → Reader (Ast n)) {A : Type 0} (Ends : List Lexeme → Type 0)
     (first : Form A) (test : Lexeme → Bool) (step : A → Lexeme → Form A) where
-  -- the first form and some turns read a tree of these lexemes, where the rest doesn't go on with the last turn; and others may follow
+  -- the first form and some iterations read an AST of these lexemes, where the rest doesn't continue the last one; and others may follow
   pub record Gathers (ls : List Lexeme) (a : A) : Type 0 where
     pub fuel : ℕ
     pub enough : suc level ≤ fuel + length ls

@@ -36,7 +36,7 @@ use Rattle.sa_grammar.proofs.ExpressionEnds.{Ends, after_expr, kind_ends}
 use Rattle.sa_grammar.proofs.ExpressionsSound.{Spells, nested_sound}
 use Rattle.sa_grammar.proofs.ExpressionsComplete.{EndsOf, nest_read}
 
--- ---- what stands there
+-- ---- what is there
 
 bool_stands : (l : Lexeme) → is_bool l ≡ true → IsBool l
 bool_stands l h =
@@ -133,7 +133,7 @@ module _ (level : ℕ) (nested : (n : Nested) → Reader (Ast n)) (inside : (n :
 
 -- ---- the forms are complete
 
--- no `is` goes on with an expression, and no "post" does
+-- no `is` continues an expression, and no "post" does
 pub clause_ends : {ls : List Lexeme} {c : Option Condition} (after : TokenKind → Bool) → after (token.Word word.Post) ≡ false → (rest : List Lexeme) → IsClause word.Post PostClause ls c
     → Ends after rest → Ends after (ls ++ rest)
 clause_ends after none rest cond.IsClause.absent ends = ends
@@ -158,7 +158,7 @@ module _ (level : ℕ) (nested : (n : Nested) → Reader (Ast n))
   clause_read v scope rest (cond.IsClause.given {ls = ls} {condition = holds} is h) small shut ends =
       reads-met (word_met is) (reads-make (condition_read scope ls holds rest h (omega arith) ends))
 
-  -- in front of `is`
+  -- before `is`
   pub clauses_read : (file_kind : FileKind) {ls : List Lexeme} {all : Clauses} (w : Lexeme) (rest : List Lexeme) → IsClauses file_kind ls all → length ls < level → IsWord word.Is w
       → Reads level nested (clauses_form file_kind) (ls ++ w ∷ rest) all (w ∷ rest)
   unfolding clauses_form

@@ -1,4 +1,4 @@
--- What is sound and complete is exact: the longest front that begins a tree is taken.
+-- What is sound and complete is exact: the longest prefix that begins an AST is taken.
 use Rattle.std.proofs.Common.{◌≡◌, ℕ, suc, ◌+◌, ◌<◌, List, [], ◌∷◌, ◌++◌, length, sym, ap, subst, ◌∙◌, append_assoc, append-nil, arith, length-append}
 use Rattle.std.proofs.lemmas.List.{append_cancel_right}
 use Rattle.sa_parser_expr.specs.Lexemes.{Lexeme}
@@ -22,7 +22,7 @@ module _ {A : Type 0} (R : Spelling A) (r : ℕ → Reader A) (sound : (n : ℕ)
   unique ls one other h k =
       ap (tree_or one) (sym (complete (suc (length ls)) ls one h (omega arith)) ∙ complete (suc (length ls)) ls other k (omega arith))
 
-  -- what is read at a level of a front, one more lexeme, and what completes them
+  -- what is read at a level of a prefix, one more lexeme, and what completes them
   continued : (n : ℕ) (front : List Lexeme) (l : Lexeme) (b : Begins R (front ++ l ∷ [])) → length ((front ++ l ∷ []) ++ b.more) < n → r n (front ++ l ∷ b.more) ≡ Read b.tree []
   continued n front l b lt =
       ap (r n) (sym (append-nil ((front ++ l ∷ []) ++ b.more) ∙ append_assoc front (l ∷ []) b.more))
@@ -47,7 +47,7 @@ module _ {A : Type 0} (R : Spelling A) (r : ℕ → Reader A) (sound : (n : ℕ)
         let agree : Agrees rest (l ∷ b.more) = subst (λ xs. Agrees xs (l ∷ b.more)) (sym next) same in
         refused_apart (sym (continued n front l b (omega arith)) ∙ ap (λ xs. r n (xs ++ l ∷ b.more)) fronts ∙ s.local (l ∷ b.more) agree)
 
-    -- where each level above the number of lexemes reads the same
+    -- where each level greater than the number of lexemes reads the same
     pub exact : (v : Reading A) → ((n : ℕ) → length ls < n → r n ls ≡ v) → IsRead R ls v
     exact (Read a rest) all =
         let took = λ (n : ℕ) (lt : length ls < n). subst (Answers R (r n) ls) (all n lt) ((sound n).answers ls) in

@@ -1,4 +1,4 @@
--- What goes on with the productions of expressions, by the kind of the next lexeme.
+-- What continues the productions of expressions, by the kind of the next lexeme.
 use Rattle.std.proofs.Common.{◌≡◌, Bool, false, ◌||◌, is_some, List, [], ◌∷◌, ap, ◌∙◌}
 use Rattle.std.proofs.lemmas.Bool.{or_parts}
 use Rattle.sa_lexer.specs.declared.token.TokenKind.{TokenKind}
@@ -9,18 +9,18 @@ use Rattle.sa_parser_expr.specs.Tests.{is_sign_kind, is_word_kind, is_class_kind
 use Rattle.sa_parser_expr.proofs.Shifts.{Shut}
 use Rattle.sa_grammar.proofs.TypeForms.{EndsType}
 
--- behind the `#` of a creation
+-- after the `#` of a creation
 abbrev pub begins_type : TokenKind → Bool
 begins_type k = is_class_kind k || (is_word_kind word.Same k || (is_word_kind word.Rout k || (is_word_kind word.Iter k || false)))
 
--- behind a type, or where one may stand
+-- after a type, or where one is allowed
 abbrev pub after_colon : TokenKind → Bool
 after_colon k = is_sign_kind sign.Colon k || begins_type k
 
 abbrev pub after_type : TokenKind → Bool
 after_type k = is_sign_kind sign.LeftBrace k || after_colon k
 
--- behind a name
+-- after a name
 abbrev pub after_name : TokenKind → Bool
 after_name k = is_sign_kind sign.LeftParen k || after_type k
 
@@ -78,7 +78,7 @@ ends_type rest h = record {
 pub ends_optional_type : (rest : List Lexeme) → Ends after_type rest → Ends begins_type rest
 ends_optional_type rest h = ends_right (is_sign_kind sign.Colon) begins_type rest (ends_right (is_sign_kind sign.LeftBrace) after_colon rest h)
 
--- what doesn't go on with an expression doesn't go on with its first part
+-- what doesn't continue an expression doesn't continue its first part
 pub expr_ends_power : (rest : List Lexeme) → Ends after_expr rest → Ends after_power rest
 expr_ends_power rest h =
     ends_left after_power (λ k. is_some (multiplying_kind k)) rest (ends_left after_product (λ k. is_some (adding_kind k)) rest

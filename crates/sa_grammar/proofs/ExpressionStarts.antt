@@ -88,7 +88,7 @@ sign_begins sign.LeftBracket = true
 sign_begins sign.LeftParen = true
 sign_begins _ = false
 
--- without an operator in front
+-- without an operator before it
 abbrev pub begins_first : ConditionScope → TokenKind → Bool
 begins_first s (token.Word w) = word_begins s w
 begins_first s (token.Sign sign) = sign_begins sign

@@ -39,7 +39,7 @@ use Rattle.sa_grammar.proofs.ExpressionEnds.{ends_left, ends_right, kind_ends, f
 use Rattle.sa_grammar.proofs.StatementEnds.{after_stmts}
 use Rattle.sa_grammar.proofs.ExpressionsSound.{Spells, exprs_separated, args_separated}
 
--- what doesn't go on with the productions that nest
+-- what doesn't continue the productions that nest
 abbrev pub EndsOf : Nested → List Lexeme → Type 0
 EndsOf type rest = EndsType rest
 EndsOf (expr s x) rest = Ends after_expr rest
@@ -51,7 +51,7 @@ EndsOf stmts rest = Ends after_stmts rest
 pub comma_ends : (l : Lexeme) (rest : List Lexeme) → IsSign sign.Comma l → Ends after_expr (l ∷ rest)
 comma_ends l rest is = kind_ends after_expr l rest is.kind refl
 
--- arguments, or what stands behind them, begin no type, and go on with none
+-- arguments, or what comes after them, begin no type, and continue none
 args_end_type : {s : ConditionScope} {ls : List Lexeme} {given : List ExprArg} (rest : List Lexeme) → IsArgs s ls given → Ends after_name rest → Ends after_type (ls ++ rest)
 args_end_type rest exprs.no_args h = ends_right (is_sign_kind sign.LeftParen) after_type rest h
 args_end_type rest (exprs.args {opening = begun} {closing = closed} {ls = ls} entered among closes) h = kind_ends after_type begun ((ls ++ closed ∷ []) ++ rest) entered.kind refl
@@ -64,7 +64,7 @@ type_opens (types.same is) = ap begins_type is.kind
 type_opens (types.rout is first second) = ap begins_type is.kind
 type_opens (types.iter is first second) = ap begins_type is.kind
 
--- behind "initial" and "bind"
+-- after "initial" and "bind"
 abbrev initial_form : Lexeme → Form Expr
 initial_form w = shift (is_sign sign.LeftParen) (λ _. make (λ e. tree.Call Implied w.bytes (Value In e ∷ []) w.pos) (inside_form Plain)) refuse
 
@@ -158,7 +158,7 @@ module _ (level : ℕ) (nested : (n : Nested) → Reader (Ast n))
   implied_read {s = s} x rest (exprs.named {f = f} (iter_name e) among) small shut =
       reads-kind {other = make (λ given. tree.Call Implied f.bytes given f.pos) (args_form s)} e refl (reads-make (args_read rest among (omega arith) shut))
 
-  -- {text} behind a first one
+  -- {text} after a first one
   abbrev turns : ℕ → List ℕ → Reader (List ℕ)
   turns fuel bytes = repeated fuel is_text (λ bytes l. run level nested (give (bytes ++ text_of l))) bytes
 
@@ -215,7 +215,7 @@ module _ (level : ℕ) (nested : (n : Nested) → Reader (Ast n))
       reads-follow (type_read level nested (inside type) (colons ∷ (ms ++ rest)) one (omega arith) (sign_ends sign.DoubleColon refl refl colons (ms ++ rest) parting))
       (reads-met (sign_met parting) (call_read rest called (omega arith) shut))
 
-  -- what may stand in some places alone is passed over where another lexeme stands
+  -- what is allowed in some contexts alone is skipped where another lexeme is
   passed : (s : ConditionScope) (x : Where) {other : Form Expr} {ls : List Lexeme} {e : Expr} {rest : List Lexeme} → Shut (is_sign sign.Bar) ls → Shut (is_word word.Result) ls
       → Shut (is_word word.Initial) ls → Reads level nested other ls e rest → Reads level nested (items_or s x (result_or s other)) ls e rest
   unfolding items_or result_or

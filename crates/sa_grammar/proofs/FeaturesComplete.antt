@@ -55,7 +55,7 @@ use Rattle.sa_grammar.proofs.Signatures.{after_sig, names_read, sig_read}
 use Rattle.sa_grammar.proofs.Conditions.{clause_ends, clauses_read, invariant_read}
 use Rattle.sa_grammar.proofs.FeaturesSound.{IsOpen, called, declared, constants, included, most}
 
--- ---- what stands behind members
+-- ---- what comes after members
 
 -- nothing, a `;` or an "end"
 pub data IsClosed : List Lexeme → Type 0 where
@@ -77,7 +77,7 @@ feature_no_word : (w : Word) {f : Lexeme} → IsFeature f → is_word w f ≡ fa
 feature_no_word w (lower_name e) = ap (is_word_kind w) e
 feature_no_word w (iter_name e) = ap (is_word_kind w) e
 
--- behind the arrow of a change
+-- after the arrow of a change
 abbrev after_access : TokenKind → Bool
 after_access k = is_word_kind word.Readonly k || is_feature_kind k
 
@@ -122,7 +122,7 @@ value_shuts_colon : {ls : List Lexeme} {value : Option Expr} (rest : List Lexeme
 value_shuts_colon rest stmt.not_assigned shut = shut
 value_shuts_colon rest (stmt.assigned is h) shut = other_sign sign.Colon refl is
 
--- clauses, in front of `is`
+-- clauses, before `is`
 clauses_end : {file_kind : FileKind} {ls : List Lexeme} {all : Clauses} (after : TokenKind → Bool) → after (token.Word word.Pre) ≡ false → after (token.Word word.Post) ≡ false
     → after (token.Word word.Is) ≡ false → (w : Lexeme) (rest : List Lexeme) → IsClauses file_kind ls all → IsWord word.Is w → Ends after (ls ++ w ∷ rest)
 clauses_end after pre post none w rest cond.IsClauses.absent is = kind_ends after w rest is.kind none
@@ -139,7 +139,7 @@ constants_start (features.counted_constants is l h others) = word_met is
 invariant_starts : {ls : List Lexeme} {holds : Condition} → IsInvariant ls holds → Meets (λ l. is_word_kind word.Invariant l.kind) ls
 invariant_starts (cond.invariant is colon bool v gives h closes) = word_met is
 
--- words that begin a member behind the words of access
+-- words that begin a member after the words of access
 abbrev word_begins_open : Word → Bool
 word_begins_open word.Attr = true
 word_begins_open word.Shared = true
@@ -174,7 +174,7 @@ open_starts (constants (features.counted_constants is l h others)) = ap begins_o
 open_starts (included is one changes) = ap begins_open is.kind
 
 module _ (level : ℕ) (nested : (n : Nested) → Reader (Ast n)) where
-  -- ---- other alternatives are passed by
+  -- ---- other alternatives are skipped
 
   past_declared : (access : Access) {other : Form Declaration} {ls rest : List Lexeme} {m : Declaration} → Shut (is_word word.Attr) ls → Shut (is_word word.Shared) ls
       → Reads level nested other ls m rest → Reads level nested (declared_or access other) ls m rest

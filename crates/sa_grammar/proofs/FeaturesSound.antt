@@ -47,7 +47,7 @@ use Rattle.sa_grammar.proofs.StatementsSound.{sound_value, sound_assigned, no_st
 use Rattle.sa_grammar.proofs.Signatures.{sound_names, sound_sig}
 use Rattle.sa_grammar.proofs.Conditions.{sound_clauses, sound_invariant}
 
--- what a member is behind the words of access
+-- what a member is after the words of access
 pub data IsOpen (class : Enclosing) (access : Access) : List Lexeme → Declaration → Type 0 where
   called : {ls : List Lexeme} {feature : Feature} {clauses : Clauses} → IsCalled class access ls feature clauses → IsOpen class access ls (called_of feature clauses)
   declared : {ls : List Lexeme} {all : List Feature} → IsDeclared access ls all → IsOpen class access ls (variables_of all)
@@ -72,7 +72,7 @@ abbrev pub most : Bool → ℕ
 most true = 1
 most false = 0
 
--- a member where an invariant may stand or not
+-- a member where an invariant is allowed or not
 pub record IsCounted (class : Enclosing) (invariants : Bool) (ls : List Lexeme) (m : Declaration) : Type 0 where
   pub is : IsMember class ls m
   pub count : length (invariants_of m) ≤ most invariants

@@ -74,7 +74,7 @@ invariant_opens Prelude invariants other l e fits h = absurd (cc)
 
 -- ---- what opens a member
 
--- behind the four words that begin a member of each kind
+-- after the four words that begin a member of each kind
 past_words : (class : Enclosing) (access : Access) (l : Lexeme) → opens (stub_or class.kind access (builtin_or class.file_kind class.name access (routine_form class access))) l ≡ true
     → opens (open_form class access) l ≡ true
 unfolding open_form declared_or

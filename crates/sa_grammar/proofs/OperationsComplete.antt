@@ -30,7 +30,7 @@ use Rattle.sa_grammar.proofs.ExpressionEnds.{ends_left, ends_right, kind_ends, f
 use Rattle.sa_grammar.proofs.ExpressionsSound.{Spells, post_some}
 use Rattle.sa_grammar.proofs.ExpressionsComplete.{EndsOf, nest_read, call_read, places_read, first_read}
 
--- the operators of a precedence don't go on with their operands
+-- the operators of a precedence don't continue their operands
 multiplying_ends : (op : Operator) (o : Lexeme) → IsOperator Multiplying op o → (rest : List Lexeme) → Ends after_power (o ∷ rest)
 multiplying_ends op o (exprs.multiplying (exprs.star is)) rest = kind_ends after_power o rest is.kind refl
 multiplying_ends op o (exprs.multiplying (exprs.slash is)) rest = kind_ends after_power o rest is.kind refl

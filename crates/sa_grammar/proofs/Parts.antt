@@ -36,7 +36,7 @@ any_class = record { name = []; kind = Reference; file_kind = Program }
 abbrev pub Declaration : Type 0
 Declaration = spelled_by (IsMember any_class)
 
--- what is behind the words of access, as a member
+-- what comes after the words of access, as a member
 abbrev behind_access : {m : Declaration} {A : Type 0} → (A → IsMember any_class [] m) → Declaration
 behind_access {m = m} gives = m
 

@@ -114,7 +114,7 @@ module _ (level : ℕ) (nested : (n : Nested) → Reader (Ast n)) (inside : (n :
 
 -- ---- the forms are complete
 
--- what goes on with a type
+-- what continues a type
 abbrev pub goes_on_type : TokenKind → Bool
 goes_on_type k = is_sign_kind sign.LeftBrace k || is_sign_kind sign.Colon k
 
@@ -124,7 +124,7 @@ goes_on_ends_type rest h = record {
   colon = ends_right (is_sign_kind sign.LeftBrace) (is_sign_kind sign.Colon) rest h;
 }
 
--- behind a signature
+-- after a signature
 abbrev pub after_sig : TokenKind → Bool
 after_sig k = is_sign_kind sign.LeftParen k || goes_on_type k
 

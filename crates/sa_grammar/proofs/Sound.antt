@@ -1,5 +1,5 @@
--- Sound forms: what is read is spelled, what is refused is so behind lexemes that begin a tree, and of the lexemes behind those that
--- are taken a form sees the first one alone. A lemma for each way to make forms.
+-- Sound forms: what is read is spelled, what is refused is so after lexemes that begin an AST, and of the lexemes after those that
+-- are taken a form looks at the first one alone. A lemma for each way to make forms.
 use Rattle.std.proofs.Common.{◌≡◌, ℕ, zero, suc, ◌+◌, ◌≤◌, Bool, true, false, cond, List, [], ◌∷◌, ◌++◌, length, refl, sym, ap, subst, ◌∙◌, append_assoc, append-nil, arith, length-append}
 use Rattle.sa_lexer.specs.declared.token.TokenKind.TheVariants as token
 use Rattle.sa_lexer.specs.declared.sign.Sign.{Sign}
@@ -15,7 +15,7 @@ use Rattle.sa_parser_expr.proofs.Tested.{sign_stands, word_stands, lexeme, a_sig
 use Rattle.sa_parser_expr.proofs.Shifts.{Shut, Meets, shifted_met, shifted_shut, chosen_met, chosen_shut}
 use Rattle.sa_parser_expr.proofs.Shorter.{behind_one, NoLonger}
 
--- another list that may stand behind what was taken: it is empty, or begins with the same lexeme
+-- another list that may follow what was taken: it is empty, or begins with the same lexeme
 pub data Agrees : List Lexeme → List Lexeme → Type 0 where
   ended : {rest : List Lexeme} → Agrees rest []
   same : {l : Lexeme} {more other : List Lexeme} → Agrees (l ∷ more) (l ∷ other)
@@ -28,7 +28,7 @@ pub shut_agrees : (test : Lexeme → Bool) {rest other : List Lexeme} → Agrees
 shut_agrees test ended h = tt
 shut_agrees test same h = h
 
--- what is spelled behind lexemes that are taken
+-- what is spelled after lexemes that are taken
 abbrev pub After : {A : Type 0} → List Lexeme → Spelling A → Spelling A
 After front R ls tree = R (front ++ ls) tree
 
@@ -66,7 +66,7 @@ sound-refused R h = record {
   answers = λ ls. record { front = []; parts = refl; begins = h; local = λ other agree. refl };
 }
 
--- ---- a reader behind another
+-- ---- a reader after another
 
 module _ {A B : Type 0} (P : Spelling A) (R : Spelling B) (r : Reader A) (go : A → Reader B)
     (sound : Sound P r) (inside : (ls : List Lexeme) (a : A) → P ls a → Sound (After ls R) (go a)) where
@@ -94,7 +94,7 @@ module _ {A B : Type 0} (P : Spelling A) (R : Spelling B) (r : Reader A) (go : A
         ap (λ xs. following go (r xs)) (append_assoc front g.front other) ∙ ap (following go) (local (g.front ++ other) seen) ∙ g.local other agree;
   }
 
-  -- what completes the first one, and what stands behind it
+  -- what completes the first one, and what comes after it
   completed : (front : List Lexeme) → Begins P front → Begins R front
   completed front h =
       let later = (inside (front ++ h.more) h.tree h.spelled).begins in
@@ -347,7 +347,7 @@ answered_shorter R r ls (Refused rest) s = let sum : length ls ≡ length s.fron
 pub sound_shorter : {A : Type 0} (R : Spelling A) (r : Reader A) → Sound R r → (ls : List Lexeme) → NoLonger ls (r ls)
 sound_shorter R r sound ls = answered_shorter R r ls (r ls) (sound.answers ls)
 
--- ---- behind a lexeme that a reader takes
+-- ---- after a lexeme that a reader takes
 
 abbrev others : List Lexeme → List Lexeme
 others [] = []

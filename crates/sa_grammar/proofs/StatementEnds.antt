@@ -1,4 +1,4 @@
--- What statements begin with, and what goes on with them, by the kind of the next lexeme.
+-- What statements begin with, and what continues them, by the kind of the next lexeme.
 use Rattle.std.proofs.Common.{◌≡◌, Bool, true, false, ◌||◌, List, [], ◌∷◌, refl, ◌∙◌}
 use Rattle.sa_lexer.specs.declared.token.TokenKind.{TokenKind}
 use Rattle.sa_lexer.specs.declared.token.TokenKind.TheVariants as token
@@ -41,19 +41,19 @@ kind_begins_stmt _ = false
 abbrev pub begins_stmt : TokenKind → Bool
 begins_stmt k = kind_begins_stmt k || begins_expr Plain k
 
--- behind names
+-- after names
 abbrev pub after_names : TokenKind → Bool
 after_names k = is_sign_kind sign.Comma k || is_sign_kind sign.Declare k
 
--- behind an expression
+-- after an expression
 abbrev pub after_value : TokenKind → Bool
 after_value k = is_sign_kind sign.Assign k || after_names k
 
--- behind a statement without others
+-- after a statement without others
 abbrev pub after_simple : TokenKind → Bool
 after_simple k = after_expr k || after_value k
 
--- behind a statement, or where one may stand
+-- after a statement, or where one is allowed
 abbrev pub after_stmt : TokenKind → Bool
 after_stmt k = after_simple k || begins_stmt k
 

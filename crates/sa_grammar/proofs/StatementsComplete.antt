@@ -135,7 +135,7 @@ pub ending_ends : {ls : List Lexeme} {other : Option (List Stmt)} (after : Token
 ending_ends after none also rest (stmt.ending {closing = closed} stmt.no_else closes) = kind_ends after closed rest closes.kind none
 ending_ends after none also rest (stmt.ending {closing = closed} (stmt.else_part (stmt.body {w = w} {ls = ls} is h)) closes) = kind_ends after w ((ls ++ closed ∷ []) ++ rest) is.kind also
 
--- the arms behind a case, and what ends them
+-- the arms after a case, and what ends them
 pub case_arms_end : {ls ms : List Lexeme} {arms : List CaseArm} {other : Option (List Stmt)} (after : TokenKind → Bool) → after (token.Word word.When) ≡ false
     → after (token.Word word.End) ≡ false → after (token.Word word.Else) ≡ false → (rest : List Lexeme) → IsCaseArms ls arms → IsEnding ms other → Ends after (ls ++ (ms ++ rest))
 case_arms_end after when none also rest stmt.no_case_arm k = ending_ends after none also rest k
@@ -154,7 +154,7 @@ module _ (level : ℕ) (nested : (n : Nested) → Reader (Ast n)) where
   reads-at : {A : Type 0} {form : Form A} {ls ms rest : List Lexeme} {a : A} → ls ≡ ms → Reads level nested form ms a rest → Reads level nested form ls a rest
   reads-at {form = form} e r = record { is = ap (run level nested form) e ∙ r.is }
 
-  -- a name alone is the expression where a sign of a declaration stands behind it
+  -- a name alone is the expression where a sign of a declaration follows it
   abbrev Stops : Lexeme → Sign → Type 0
   Stops l s = (c : Lexeme) (ls : List Lexeme)
       → run level nested (after_name_form l) (with_kind (token.Sign s) c ∷ ls) ≡ Read (exprtree.Call Implied l.bytes [] l.pos) (with_kind (token.Sign s) c ∷ ls)
@@ -227,7 +227,7 @@ module _ (level : ℕ) (nested : (n : Nested) → Reader (Ast n))
   typed_read all {ms = ms} {vs = vs} {t = t} rest one given small short ends =
       reads-follow (nest_read level nested inside type ms t (vs ++ rest) one small (assigned_ends rest given ends)) (reads-make (assigned_read rest given short ends))
 
-  -- names, a `:` and what is behind it, from the first name on
+  -- names, a `:` and what comes after it, from the first name on
   declare_read : {ls ms vs : List Lexeme} {all : List Local} {t : Ty} {value : Option Expr} (colon : Lexeme) (rest : List Lexeme) → IsNames ls all → IsSign sign.Colon colon → IsType ms t
       → IsAssigned vs value → length ls + length ms + length vs < suc level → Ends after_simple rest
       → Reads level nested simple_form (ls ++ colon ∷ (ms ++ (vs ++ rest))) (tree.Declare all (Some t) value) rest
@@ -242,7 +242,7 @@ module _ (level : ℕ) (nested : (n : Nested) → Reader (Ast n))
       (other_sign sign.Comma refl is))
       (reads-met (sign_met is) (typed_read (name_of l ∷ name_of next ∷ others) rest one given (omega arith) (omega arith) ends))))
 
-  -- an expression, and what an assignment has behind it
+  -- an expression, and what an assignment has after it
   from_value : (l : Lexeme) (ls : List Lexeme) (a : Expr) (tail : List Lexeme) {s : Stmt} {rest : List Lexeme} → IsValue (l ∷ ls) a → length (l ∷ ls) < suc level
       → Ends after_expr tail → Ends after_names tail → Reads level nested (assign_form a) tail s rest → (b : Bool) → is_lower l ≡ b
       → Reads level nested simple_form ((l ∷ ls) ++ tail) s rest

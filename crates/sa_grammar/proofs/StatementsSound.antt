@@ -76,7 +76,7 @@ declared : {ls ms rest : List Lexeme} {colon : Lexeme} {all : List Local} {t : T
 declared {ls = ls} {ms = ms} {rest = rest} {colon = colon} {all = all} {t = t} {value = value} h is one k =
     subst (λ xs. IsSimple xs (tree.Declare all (Some t) value)) (append_assoc ls (colon ∷ ms) rest) (stmt.declare h is one k)
 
--- behind the parts of statements that choose, the lexemes in one list
+-- after the parts of statements that choose, the lexemes in one list
 after_case : (w : Lexeme) (ls ms rest : List Lexeme) (e : Expr) (arms : List CaseArm) (other : Option (List Stmt)) → IsWord word.Case w → IsValue ls e → IsCaseArms ms arms → IsEnding rest other
     → IsStmt (w ∷ (ls ++ (ms ++ rest))) (tree.Case e arms other w.pos)
 after_case w ls ms rest e arms other is h k j = stmt.case_block is h (stmt.case_choice k j)

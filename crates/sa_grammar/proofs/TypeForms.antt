@@ -98,7 +98,7 @@ module _ (level : ℕ) (nested : (n : Nested) → Reader (Ast n)) (inside : Soun
 
 -- ---- the forms are complete
 
--- what doesn't go on with a type
+-- what doesn't continue a type
 pub record EndsType (rest : List Lexeme) : Type 0 where
   pub brace : Shut (is_sign sign.LeftBrace) rest
   pub colon : Shut (is_sign sign.Colon) rest

@@ -1,4 +1,4 @@
--- What holds of the grammar.
+-- The law of the grammar.
 use Rattle.std.specs.Prelude.{List, true}
 use Rattle.sa_parser_expr.specs.Lexemes.{Lexeme}
 use Rattle.sa_parser_expr.specs.declared.grammar.ConditionScope.{ConditionScope}
@@ -23,7 +23,7 @@ use Rattle.sa_parser.specs.ClassForms.{class_form, file_form}
 abbrev pub OneType : Type 0
 OneType = IsUnique IsType
 
--- of each list the longest front is taken that begins a type: either it spells the type that is read, or the next lexeme is refused
+-- of each list the longest prefix is taken that begins a type: either it spells the type that is read, or the next lexeme is refused
 abbrev pub TypesAreRead : Type 0
 TypesAreRead = (ls : List Lexeme) → IsRead IsType ls (read_as (nest type) ls)
 
@@ -41,7 +41,7 @@ OneExpr = (s : ConditionScope) (x : Where) → IsUnique (IsExpr s (enclosure_of 
 abbrev pub ExprsAreRead : Type 0
 ExprsAreRead = (s : ConditionScope) (x : Where) (ls : List Lexeme) → IsRead (IsExpr s (enclosure_of x)) ls (read_as (nest (expr s x)) ls)
 
--- the same of expressions without operators, as a bind wants one
+-- the same of expressions without operators, as a bind requires one
 abbrev pub OnePost : Type 0
 OnePost = (s : ConditionScope) (x : Where) → IsUnique (IsPost s (enclosure_of x))
 
@@ -55,7 +55,7 @@ OneListOfExprs = (s : ConditionScope) (x : Where) → IsUnique (IsExprs s (enclo
 abbrev pub ListsOfExprsAreRead : Type 0
 ListsOfExprsAreRead = (s : ConditionScope) (x : Where) (ls : List Lexeme) → IsRead (IsExprs s (enclosure_of x)) ls (read_as (list (nest (expr s x))) ls)
 
--- the same of statements, with those that they hold
+-- the same of statements, with those that they contain
 abbrev pub OneStmt : Type 0
 OneStmt = IsUnique IsStmt
 

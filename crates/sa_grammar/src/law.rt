@@ -1,4 +1,4 @@
-//! The law, as what functions of empty bodies ensure.
+//! The law, as clauses of functions with empty bodies.
 
 ghost use Rattle.sa_grammar.specs.Law.{ClassesAreRead, FilesAreRead, OneClass, OneFile};
 ghost use Rattle.sa_grammar.specs.Law.{ExprsAreRead, ListsOfExprsAreRead, OneExpr, OneListOfExprs, OnePost, PostsAreRead};

@@ -11,7 +11,7 @@ module _ {B : Type 0} where
   first_none [] ys h = refl
   first_none (x ∷ xs) ys h = cc
 
--- of the lists that the elements give, from a place on
+-- of the lists that the elements give, from an index on
 module _ {A B : Type 0} (f : A → List B) where
   next : (xs : List A) (i : ℕ) (x : A) → i < length xs → x ≡ get_or xs i x → flat_map f (drop i xs) ≡ f x ++ flat_map f (drop (i + 1) xs)
   next xs i x h e = rw (add-one, drop-cons xs i x h, ← e)

@@ -1,4 +1,4 @@
--- What closed marks and ways that go on show.
+-- What closed marks and paths that continue show.
 use Rattle.std.proofs.Common.{◌≡◌, ℕ, zero, suc, ◌+◌, ◌<◌, ◌≤◌, Bool, true, false, List, Option, Some, length, slice_get, sym, ap, subst, ◌∙◌, ◌⊎◌, inl, inr, ⊎_elim, arith}
 use Rattle.std.proofs.lemmas.Bool.{false≢true}
 use Rattle.std.proofs.lemmas.List.{get_or_past}
@@ -53,7 +53,7 @@ closed-all graph marks n count so_far le is = record {
 
 pub ruleset closed = (closed-none, closed-more, closed-all)
 
--- ---- ways that go on
+-- ---- paths that continue
 
 pub end-at : (graph : Graph) (place from node next : ℕ) (starts ends : List ℕ) → starts ≡ starts_of graph → ends ≡ ends_of graph → slice_get starts place ≡ Some from → from ≡ node → slice_get ends place ≡ Some next → IsEdge graph node next
 end-at graph place from node next starts ends are_starts are_ends start same end = (place, ap (λ xs. slice_get xs place) (sym are_starts) ∙ start ∙ ap Some same, ap (λ xs. slice_get xs place) (sym are_ends) ∙ end)

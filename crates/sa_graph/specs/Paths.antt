@@ -1,12 +1,12 @@
--- The ways along the edges of a graph.
+-- The paths along the edges of a graph.
 use Rattle.std.specs.Prelude.{◌≡◌, ℕ, ◌<◌, List, Option, Some, MatchOption, slice_get}
 use Rattle.sa_graph.specs.declared.graph.Graph.{Graph}
 
--- an edge leads from one node to another: at some place the one is among the starts, and the other among the ends
+-- an edge leads from one node to another: at some index the one is among the starts, and the other among the ends
 abbrev pub HasEdge : List ℕ → List ℕ → ℕ → ℕ → Type 0
 HasEdge starts ends from to = (place : ℕ) × (slice_get starts place ≡ Some from) × (slice_get ends place ≡ Some to)
 
--- one edge or more lead from a node to another
+-- a path of one edge or more leads from a node to another
 pub data HasPath (Edge : ℕ → ℕ → Type 0) (from : ℕ) : ℕ → Type 0 where
   by_edge : {to : ℕ} → Edge from to → HasPath Edge from to
   by_edges : {between to : ℕ} → HasPath Edge from between → Edge between to → HasPath Edge from to
@@ -23,7 +23,7 @@ ends_of graph = graph.ends.items
 abbrev pub IsEdge : Graph → ℕ → ℕ → Type 0
 IsEdge graph = HasEdge (starts_of graph) (ends_of graph)
 
--- a node lies on a cycle: it leads to itself
+-- a node lies on a cycle: it has a path to itself
 abbrev pub IsOnCycle : Graph → ℕ → Type 0
 IsOnCycle graph node = HasPath (IsEdge graph) node node
 

@@ -1,4 +1,4 @@
--- The nodes that lead to one.
+-- The nodes that have a path to a given one.
 use Rattle.std.specs.Prelude.{◌≡◌, ◌⊎◌, ◌↔◌, ◌<◌, ℕ, Bool, true, false, List, Some, slice_get}
 use Rattle.std.specs.List.{slice_index_or}
 use Rattle.sa_graph.specs.declared.graph.Graph.{Graph}
@@ -9,7 +9,7 @@ use Rattle.sa_graph.specs.Paths.{IsEdge, HasPath, ends_of, starts_of}
 abbrev pub is_set : List Bool → ℕ → Bool
 is_set marks node = slice_index_or marks node false
 
--- a node is this one, or leads to it
+-- a node is this one, or has a path to it
 abbrev pub Reaches : Graph → ℕ → ℕ → Type 0
 Reaches graph to node = (node ≡ to) ⊎ HasPath (IsEdge graph) node to
 
@@ -17,9 +17,9 @@ Reaches graph to node = (node ≡ to) ⊎ HasPath (IsEdge graph) node to
 pub record AreReaching (graph : Graph) (to : ℕ) (marks : List Bool) : Type 0 where
   pub exactly : (node : ℕ) → (is_set marks node ≡ true) ↔ Reaches graph to node
 
--- ---- what is tried
+-- ---- what is verified
 
--- where the end of the edge at a place is marked, its start is
+-- where the end of the edge at an index is marked, its start is
 pub record IsClosedAt (graph : Graph) (marks : List Bool) (place : ℕ) : Type 0 where
   pub closed : (from next : ℕ) → slice_get (starts_of graph) place ≡ Some from → slice_get (ends_of graph) place ≡ Some next
       → is_set marks next ≡ true → is_set marks from ≡ true
@@ -35,7 +35,7 @@ pub record GoesOn (graph : Graph) (ways : Ways) (node : ℕ) : Type 0 where
   pub marked : is_set ways.marks.items next ≡ true
   pub fewer : level_of ways.steps.items next < level_of ways.steps.items node
 
--- it is so of a node that is marked, but for the one that is led to
+-- it is so of a node that is marked, but for the one that the paths lead to
 pub record IsOnWay (graph : Graph) (ways : Ways) (to node : ℕ) : Type 0 where
   pub way : is_set ways.marks.items node ≡ true → (node ≡ to) ⊎ GoesOn graph ways node
 

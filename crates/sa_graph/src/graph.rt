@@ -9,10 +9,10 @@ use crate::grouped::IndexGroups;
 use crate::list::word;
 use crate::reach::{Ways, edges_of_walk, ways_to};
 use crate::walk::leaving_order;
-use sa_ast::NoMemory;
+use failure::{Failure, Invariant};
 use std::alloc::Global;
 
-/// Edges between nodes that are numbered from 0. An edge has the number of its place among those that were given.
+/// A directed graph: edges between nodes that are numbered from 0. The number of an edge is its index in the lists that were given.
 #[derive(Drop)]
 pub struct Graph {
     count: usize,
@@ -22,17 +22,17 @@ pub struct Graph {
 }
 
 impl Graph {
-    /// The graph of so many nodes, with an edge from each start to the end at the same place.
+    /// The graph of so many nodes, with an edge from each start to the end at the same index.
     ///
     /// # Errors
     ///
-    /// `NoMemory`, also where an edge begins or ends at no node.
+    /// A `Failure`: `Broken` where an edge begins or ends at no node.
     pub fn new(
         alloc: Global,
         count: usize,
         starts: Vec<u32>,
         ends: Vec<u32>,
-    ) -> Result<Graph, NoMemory>
+    ) -> Result<Graph, Failure>
         ensures count { IfOk result (λ graph. node_count graph ≡ count) }
         ensures starts { IfOk result (λ graph. starts_of graph ≡ starts.items) }
         ensures ends { IfOk result (λ graph. ends_of graph ≡ ends.items) }
@@ -84,13 +84,13 @@ impl Graph {
         self.ends.get(edge as usize).copied()
     }
 
-    /// All nodes, in the order in which a walk in depth leaves them: where the graph has no cycle, each node comes after
-    /// those that it has edges to.
+    /// All nodes in the postorder of a depth-first search: where the graph has no cycle, each node comes after those that it has
+    /// edges to.
     ///
     /// # Errors
     ///
-    /// `NoMemory`.
-    pub fn order(&self, alloc: Global) -> Result<Vec<u32>, NoMemory> {
+    /// A `Failure`.
+    pub fn order(&self, alloc: Global) -> Result<Vec<u32>, Failure> {
         leaving_order(alloc, self)
     }
 
@@ -98,20 +98,20 @@ impl Graph {
     ///
     /// # Errors
     ///
-    /// `NoMemory`.
-    pub fn cyclic(&self, alloc: Global, order: &[u32]) -> Result<Vec<bool>, NoMemory> {
+    /// A `Failure`.
+    pub fn cyclic(&self, alloc: Global, order: &[u32]) -> Result<Vec<bool>, Failure> {
         let components = Components::new(alloc, &self.transposed(alloc)?, order)?;
         self.cyclic_by(alloc, &components)
     }
 
-    /// The first node that lies on a cycle: one edge or more lead from it to itself. `order` is the order of this graph. The
-    /// answer is found without a proof, and then tried.
+    /// The first node that lies on a cycle: a path of one edge or more leads from it to itself. `order` is the order of this graph. The
+    /// answer is computed without a proof, and then verified.
     ///
     /// # Errors
     ///
-    /// `NoMemory`.
+    /// A `Failure`.
     #[tactic(auto, using(crate::proofs::Trials::answers))]
-    pub fn first_on_cycle(&self, alloc: Global, order: &[u32]) -> Result<Option<usize>, NoMemory>
+    pub fn first_on_cycle(&self, alloc: Global, order: &[u32]) -> Result<Option<usize>, Failure>
         ensures { IfOk result (IsFirstOnCycle self.now) }
     {
         let components = Components::new(alloc, &self.transposed(alloc)?, order)?;
@@ -127,7 +127,7 @@ impl Graph {
     }
 
     /// For each node whether it lies on a cycle, by the components of the graph.
-    fn cyclic_by(&self, alloc: Global, components: &Components) -> Result<Vec<bool>, NoMemory> {
+    fn cyclic_by(&self, alloc: Global, components: &Components) -> Result<Vec<bool>, Failure> {
         let mut cyclic = Vec::new(alloc);
         for node in 0..self.count {
             let together = components.has_others(node);
@@ -137,25 +137,21 @@ impl Graph {
     }
 
     /// The first node that is found to lie on a cycle.
-    fn first_cyclic(
-        &self,
-        alloc: Global,
-        components: &Components,
-    ) -> Result<Option<u32>, NoMemory> {
+    fn first_cyclic(&self, alloc: Global, components: &Components) -> Result<Option<u32>, Failure> {
         let cyclic = self.cyclic_by(alloc, components)?;
         match cyclic.iter().position(|on| *on) {
-            Some(place) => Ok(Some(word(place)?)),
+            Some(place) => Ok(Some(word(place, Invariant::GraphNode)?)),
             None => Ok(None),
         }
     }
 
-    /// For each node whether it is this one, or one edge or more lead from it to this one. The answer is found without a proof,
-    /// and then tried.
+    /// For each node whether it is this one, or has a path of one edge or more to it. The answer is computed without a proof, and then
+    /// verified.
     ///
     /// # Errors
     ///
-    /// `NoMemory`, also where there is no such node.
-    pub fn reaching(&self, alloc: Global, node: u32) -> Result<Vec<bool>, NoMemory>
+    /// A `Failure`: `Broken` where there is no such node.
+    pub fn reaching(&self, alloc: Global, node: u32) -> Result<Vec<bool>, Failure>
         ensures { IfOk result (λ marks. AreReaching self.now node marks.items) }
     {
         let ways = ways_to(alloc, &self.transposed(alloc)?, node)?;
@@ -164,12 +160,12 @@ impl Graph {
         Ok(marks)
     }
 
-    /// The same edges the other way round.
+    /// The transposed graph: the same edges, each in the other direction.
     ///
     /// # Errors
     ///
-    /// `NoMemory`.
-    pub fn transposed(&self, alloc: Global) -> Result<Graph, NoMemory> {
+    /// A `Failure`.
+    pub fn transposed(&self, alloc: Global) -> Result<Graph, Failure> {
         let starts = Vec::from_slice(alloc, self.ends.as_slice())?;
         let ends = Vec::from_slice(alloc, self.starts.as_slice())?;
         Graph::new(alloc, self.count, starts, ends)

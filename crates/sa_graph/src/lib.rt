@@ -1,5 +1,5 @@
-//! Graphs of numbered nodes: an order of the nodes in which each stands behind those that it has edges to, and the nodes that
-//! lie on a cycle. Each walk keeps its own stack, and takes time in proportion to the nodes and the edges.
+//! Graphs of numbered nodes: an order in which each node comes after those that it has edges to, and the nodes that lie on a
+//! cycle. Each search has its own stack, and takes time in proportion to the nodes and the edges.
 #![tactic(auto)]
 
 mod components;

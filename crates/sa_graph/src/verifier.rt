@@ -1,5 +1,5 @@
-//! Where a cycle was found, and that none was found before it, tried: by levels of the nodes, and by edges that lead back to a node.
-//! And the nodes that lead to one: by marks that are closed along edges, and by ways that go on with fewer steps.
+//! The verifier of cycles: that one was found, and none before it, by levels of the nodes and by edges that lead back to a node.
+//! And of the nodes that have a path to one: by marks that are closed along edges, and by paths that continue with fewer steps.
 
 ghost use Rattle.std.specs.Prelude.{◌≡◌, IfOk, OnOk};
 ghost use Rattle.sa_graph.specs.Levels.{RisesAt, level_of};
@@ -9,13 +9,13 @@ ghost use Rattle.sa_graph.specs.Reaching.{AreReaching, IsClosed, IsClosedAt, IsO
 use crate::graph::Graph;
 use crate::list::{entry, word};
 use crate::reach::Ways;
-use sa_ast::NoMemory;
+use failure::{Failure, Invariant, broken};
 
 impl Graph {
-    /// Tries that no node before `bound` lies on a cycle: each edge leads to a higher level, or stays at its level and doesn't
+    /// Verifies that no node before `bound` lies on a cycle: each edge leads to a higher level, or stays at its level and doesn't
     /// begin before `bound`.
     #[tactic(auto, using(crate::proofs::Trials::levels))]
-    pub(crate) fn try_levels(&self, levels: &[u32], bound: usize) -> Result<(), NoMemory>
+    pub(crate) fn try_levels(&self, levels: &[u32], bound: usize) -> Result<(), Failure>
         ensures { OnOk result (NoneBefore self.now bound) }
     {
         for place in 0..self.edges() {
@@ -24,31 +24,31 @@ impl Graph {
         Ok(())
     }
 
-    /// Tries the same of one edge.
+    /// Verifies the same of one edge.
     #[tactic(auto, using(crate::proofs::Trials::edges))]
-    fn try_edge(&self, levels: &[u32], bound: usize, place: usize) -> Result<(), NoMemory>
+    fn try_edge(&self, levels: &[u32], bound: usize, place: usize) -> Result<(), Failure>
         ensures { OnOk result (RisesAt levels.now bound self.now place) }
     {
-        let from = entry(self.starts(), place)?;
-        let to = entry(self.ends(), place)?;
+        let from = entry(self.starts(), place, Invariant::GraphNode)?;
+        let to = entry(self.ends(), place, Invariant::GraphNode)?;
         let low = level(levels, from);
         let high = level(levels, to);
         if low < high {
             return Ok(());
         }
         if low != high {
-            return Err(NoMemory);
+            return broken(Invariant::GraphNode);
         }
         if (from as usize) < bound {
-            return Err(NoMemory);
+            return broken(Invariant::GraphNode);
         }
         Ok(())
     }
 
-    /// Tries that a node lies on a cycle: it is reached again by a walk back from it, along the edge that is known for each node on
-    /// the way.
+    /// Verifies that a node lies on a cycle: it is reached again by a search back from it, along the edge that is known for each node on
+    /// the path.
     #[tactic(auto, using(crate::proofs::Trials::ways))]
-    pub(crate) fn try_cycle(&self, edges: &[u32], node: u32) -> Result<(), NoMemory>
+    pub(crate) fn try_cycle(&self, edges: &[u32], node: u32) -> Result<(), Failure>
         ensures { OnOk result (IsOnCycle self.now node) }
     {
         let mut at = self.start_of(edges, node)?;
@@ -58,39 +58,39 @@ impl Graph {
             }
             at = self.start_of(edges, at)?;
         }
-        Err(NoMemory)
+        broken(Invariant::GraphNode)
     }
 
     /// The start of the edge that is known for a node, at which the edge has to end.
     #[tactic(auto, using(crate::proofs::Trials::starts))]
-    fn start_of(&self, edges: &[u32], node: u32) -> Result<u32, NoMemory>
+    fn start_of(&self, edges: &[u32], node: u32) -> Result<u32, Failure>
         ensures { IfOk result (λ from. IsEdge self.now from node) }
     {
-        let edge = entry(edges, node as usize)? as usize;
-        let to = entry(self.ends(), edge)?;
+        let edge = entry(edges, node as usize, Invariant::GraphNode)? as usize;
+        let to = entry(self.ends(), edge, Invariant::GraphNode)?;
         if to != node {
-            return Err(NoMemory);
+            return broken(Invariant::GraphNode);
         }
-        let from = entry(self.starts(), edge)?;
+        let from = entry(self.starts(), edge, Invariant::GraphNode)?;
         Ok(from)
     }
 
-    /// Tries that exactly the marked nodes are this one or lead to it.
+    /// Verifies that exactly the marked nodes are this one or have a path to it.
     #[tactic(auto, using(crate::proofs::Ways::reaching))]
-    pub(crate) fn try_ways(&self, ways: &Ways, node: u32) -> Result<(), NoMemory>
+    pub(crate) fn try_ways(&self, ways: &Ways, node: u32) -> Result<(), Failure>
         ensures { OnOk result (AreReaching self.now node ways.now.marks.items) }
     {
         if !is_marked(ways.marks.as_slice(), node) {
-            return Err(NoMemory);
+            return broken(Invariant::GraphNode);
         }
         self.try_all_closed(ways.marks.as_slice())?;
         self.try_all_ways(ways, node)?;
         Ok(())
     }
 
-    /// Tries that the start of each edge is marked where its end is.
+    /// Verifies that the start of each edge is marked where its end is.
     #[tactic(auto, using(crate::proofs::Ways::closed))]
-    fn try_all_closed(&self, marks: &[bool]) -> Result<(), NoMemory>
+    fn try_all_closed(&self, marks: &[bool]) -> Result<(), Failure>
         ensures { OnOk result (IsClosed self.now marks.now) }
     {
         for place in 0..self.edges() {
@@ -99,36 +99,36 @@ impl Graph {
         Ok(())
     }
 
-    /// Tries the same of one edge.
+    /// Verifies the same of one edge.
     #[tactic(auto, using(crate::proofs::Ways::closed_at))]
-    fn try_closed(&self, marks: &[bool], place: usize) -> Result<(), NoMemory>
+    fn try_closed(&self, marks: &[bool], place: usize) -> Result<(), Failure>
         ensures { OnOk result (IsClosedAt self.now marks.now place) }
     {
-        let from = entry(self.starts(), place)?;
-        let next = entry(self.ends(), place)?;
+        let from = entry(self.starts(), place, Invariant::GraphNode)?;
+        let next = entry(self.ends(), place, Invariant::GraphNode)?;
         if !is_marked(marks, next) {
             return Ok(());
         }
         if !is_marked(marks, from) {
-            return Err(NoMemory);
+            return broken(Invariant::GraphNode);
         }
         Ok(())
     }
 
-    /// Tries that a way goes on from each node that is marked, but for the one that is led to.
+    /// Verifies that a path continues from each node that is marked, but for the one that the paths lead to.
     #[tactic(auto, using(crate::proofs::Ways::on_ways))]
-    fn try_all_ways(&self, ways: &Ways, to: u32) -> Result<(), NoMemory>
+    fn try_all_ways(&self, ways: &Ways, to: u32) -> Result<(), Failure>
         ensures { OnOk result (WaysGoOn self.now ways.now to) }
     {
         for number in 0..ways.marks.len() {
-            self.try_way(ways, to, word(number)?)?;
+            self.try_way(ways, to, word(number, Invariant::GraphNode)?)?;
         }
         Ok(())
     }
 
-    /// Tries the same of one node.
+    /// Verifies the same of one node.
     #[tactic(auto, using(crate::proofs::Ways::on_way))]
-    fn try_way(&self, ways: &Ways, to: u32, node: u32) -> Result<(), NoMemory>
+    fn try_way(&self, ways: &Ways, to: u32, node: u32) -> Result<(), Failure>
         ensures { OnOk result (IsOnWay self.now ways.now to node) }
     {
         if node == to {
@@ -139,27 +139,27 @@ impl Graph {
         }
         let next = self.end_of(ways.edges.as_slice(), node)?;
         if !is_marked(ways.marks.as_slice(), next) {
-            return Err(NoMemory);
+            return broken(Invariant::GraphNode);
         }
         let left = level(ways.steps.as_slice(), node);
         let fewer = level(ways.steps.as_slice(), next);
         if fewer >= left {
-            return Err(NoMemory);
+            return broken(Invariant::GraphNode);
         }
         Ok(())
     }
 
     /// The end of the edge that is known for a node, at which the edge has to begin.
     #[tactic(auto, using(crate::proofs::Ways::ends))]
-    fn end_of(&self, edges: &[u32], node: u32) -> Result<u32, NoMemory>
+    fn end_of(&self, edges: &[u32], node: u32) -> Result<u32, Failure>
         ensures { IfOk result (λ next. IsEdge self.now node next) }
     {
-        let edge = entry(edges, node as usize)? as usize;
-        let from = entry(self.starts(), edge)?;
+        let edge = entry(edges, node as usize, Invariant::GraphNode)? as usize;
+        let from = entry(self.starts(), edge, Invariant::GraphNode)?;
         if from != node {
-            return Err(NoMemory);
+            return broken(Invariant::GraphNode);
         }
-        let next = entry(self.ends(), edge)?;
+        let next = entry(self.ends(), edge, Invariant::GraphNode)?;
         Ok(next)
     }
 }

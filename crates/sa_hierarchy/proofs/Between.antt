@@ -7,7 +7,7 @@ use Rattle.sa_graph.specs.declared.graph.Graph.{Graph}
 use Rattle.sa_graph.proofs.Turned.{leads_along}
 use Rattle.sa_ast.specs.declared.class.Class.{Class}
 use Rattle.sa_ast.specs.declared.refusal.Rejection.{Rejection}
-use Rattle.sa_ast.specs.declared.refusal.Rejection.TheVariants.{NoMemory, Refused}
+use Rattle.sa_ast.specs.declared.refusal.Rejection.TheVariants.{Failed, Refused}
 use Rattle.sa_ast.specs.declared.refusal.Refusal.{Refusal}
 use Rattle.sa_unify.specs.declared.declared.Edge.{Edge}
 use Rattle.sa_unify.specs.declared.written.WrittenEdge.{WrittenEdge}
@@ -25,7 +25,7 @@ module _ (Edge Other : ℕ → ℕ → Type 0) (forth : (a b : ℕ) → Edge a b
 
   pub cycle_along : (fault : Rejection) → RefusesCycle Edge classes fault → RefusesCycle Other classes fault
   cycle_along (Refused refusal) r = first_along refusal r
-  cycle_along NoMemory r = tt
+  cycle_along (Failed why) r = tt
 
   pub none_along : HasNoCycle Edge classes → HasNoCycle Other classes
   none_along acyclic = record { none = λ number lt h. acyclic.none number lt (leads_along Other Edge back number number h) }
@@ -83,6 +83,6 @@ module _ (edges : List Edge) (classes : List Class) (graph : Graph) (count : ℕ
 
   pub first-found : (number : ℕ) (fault : Rejection) → IsFirst graph number → NamesCycle classes number fault → RefusesCycle (HasEdgeIn edges) classes fault
   first-found number (Refused refusal) first at = first_is number refusal first at
-  first-found number NoMemory first at = tt
+  first-found number (Failed why) first at = tt
 
 pub ruleset ordered = (none-found, first-found)

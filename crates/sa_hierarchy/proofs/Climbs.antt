@@ -6,7 +6,7 @@ use Rattle.sa_hierarchy.specs.declared.links.ParentLink.{ParentLink}
 use Rattle.sa_hierarchy.specs.Hierarchies.{Line, here, up, IsBelow, IsLinked, AreLinked, IsClimbed, IsHigher, depth_at}
 use Rattle.sa_hierarchy.proofs.Lines.{same-link, line-over, line-one, line-above, line-same, line-leap, line-to}
 
--- the class is above the other, and not above this depth if the other isn't
+-- the class is the other or an ancestor of it, and at this depth or deeper if the other is
 pub record IsOnWay (links : List ParentLink) (lower depth upper : ℕ) : Type 0 where
   pub line : Line links lower upper
   pub link : ParentLink
@@ -54,7 +54,7 @@ on_way-end links lower depth upper link h e least = record {
 pub depth-of : (links : List ParentLink) (class : ℕ) (link : ParentLink) → slice_get links class ≡ Some link → depth_at links class ≡ link.depth
 depth-of links class link is = ap (λ o. option_map_or (λ (x : ParentLink). x.depth) o 0) is
 
--- the depth falls
+-- the depth decreases
 pub higher-less : (links : List ParentLink) (lower depth upper : ℕ) → lower < length links → IsHigher links lower depth upper → depth_at links upper < depth_at links lower
 higher-less links lower depth upper less h =
     let found = link-within links lower less in
@@ -111,7 +111,7 @@ module _ (links : List ParentLink) (all : AreLinked links) where
         less = λ found k. let equal : found.depth ≡ link.depth = ap (λ (x : ParentLink). x.depth) (same-link links class found link k own) in omega (arith, equal, one);
       }
 
-  -- ---- whether a class is above another
+  -- ---- whether a class is an ancestor of another
 
   pub in_line-is : (lower depth end upper : ℕ) → IsClimbed links lower depth end → end ≡ upper → Line links lower upper
   in_line-is lower depth end upper h e = line-to links e h.line
@@ -129,7 +129,7 @@ module _ (links : List ParentLink) (all : AreLinked links) where
       let equal : h.link.depth ≡ link.depth = omega (arith, least, great) in
       line-same links all.linked h.line line h.link link h.is is equal
 
--- nothing but itself is above a class that is none
+-- a number that is no class has no ancestor but itself
 pub line-outside : (links : List ParentLink) {lower upper : ℕ} → length links ≤ lower → Line links lower upper → lower ≡ upper
 line-outside links past here = refl
 line-outside links {lower = lower} past (up link number is edge rest) = let within = slice_get_within links lower link is in absurd (omega (arith, past, within))

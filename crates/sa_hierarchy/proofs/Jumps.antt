@@ -1,4 +1,4 @@
--- What is known of the trees is known to be so, and not how: so it is with what is found in them.
+-- The facts of the trees are known as propositions, without a witness, and so are the facts of what is found in them.
 use Rattle.std.proofs.Common.{◌≡◌, ◌≢◌, ℕ, ◌<◌, ◌≤◌, Bool, true, false, List, Option, Some, None, slice_get, length, refl, sym, subst, ◌∙◌}
 use Rattle.std.proofs.Math.Bool.{Bool-set}
 use Rattle.std.proofs.Math.Bridge.{le_prop}
@@ -45,7 +45,7 @@ jump-near links class depth o link all e is deep =
 pub jump-none : (links : List ParentLink) (class depth : ℕ) (o : Option ParentLink) → o ≡ slice_get links class → o ≡ None → class < length links → ∥ IsHigher links class depth class ∥₁
 jump-none links class depth o e none less = let own = link-within links class less in absurd (none-some own.0 (sym none ∙ e ∙ own.1))
 
--- ---- whether a class is above another
+-- ---- whether a class is an ancestor of another
 
 answered : (links : List ParentLink) (lower upper : ℕ) → AreLinked links → Line links lower upper → true ≡ in_line links lower upper
 answered links lower upper all h = sym ((line-decides links all lower upper).1 h)

@@ -1,4 +1,4 @@
--- The edges of the tables are the declared ones, where they were tried.
+-- The edges of the tables are the declared ones, if the verifier has accepted them.
 use Rattle.std.proofs.Common.{◌≡◌, ℕ, ◌+◌, ◌<◌, ◌≤◌, List, Some, length, get_or, slice_get, sym, ap, subst, ◌∙◌, arith}
 use Rattle.sa_unify.specs.declared.declared.Edge.{Edge}
 use Rattle.sa_unify.specs.declared.pattern.Node.{Node}
@@ -9,7 +9,7 @@ use Rattle.sa_hierarchy.specs.Hierarchies.{Tables}
 use Rattle.sa_unify.specs.Terms.{SameInstances}
 use Rattle.sa_hierarchy.proofs.Trials.{all-more, all-of}
 
--- the written edges that were tried so far
+-- the written edges that were verified so far
 pub record WrittenSoFar (w : Tables) (written : List WrittenEdge) (n : ℕ) : Type 0 where
   pub each : (number : ℕ) (x : WrittenEdge) → number < n → slice_get written number ≡ Some x → IsWrittenAt w number (edge_of x)
 

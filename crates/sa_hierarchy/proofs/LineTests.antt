@@ -1,4 +1,4 @@
--- The test of two classes of a tree is true exactly where the one is above the other.
+-- The test of two classes of a tree is true exactly if the one is an ancestor of the other or the same.
 use Rattle.std.proofs.Common.{◌≡◌, inl, inr, ℕ, zero, suc, ◌≤◌, Bool, true, false, true≢false, nat_eq, List, Option, Some, None, slice_get, refl, sym, ap, ◌∙◌, arith}
 use Rattle.std.specs.Prelude.{◌↔◌}
 use Rattle.std.specs.Option.{option_map, option_map_or}
@@ -16,7 +16,7 @@ module _ (links : List ParentLink) where
   line-self zero c u e = eq-eqb c u e
   line-self (suc n) c u e = or_first _ _ (eq-eqb c u e)
 
-  -- by the parent, where it is known what is above that
+  -- by the parent, if its ancestors are known
   line-up : (c u : ℕ) (test : ℕ → Bool) → ((parent : ℕ) → test parent ≡ true → Line links parent u) → (o : Option ParentLink) → slice_get links c ≡ o → option_map_or test (parent_of o) false ≡ true → Line links c u
   line-up c u test more None is h = absurd (true≢false (sym h))
   line-up c u test more (Some link) is h = go link.edge refl h

@@ -1,4 +1,4 @@
--- What the tables say is what the edges lead to, where the tables were tried.
+-- What the tables say is what the edges lead to, if the verifier has accepted the tables.
 use Rattle.std.proofs.Common.{◌≡◌, ◌⊎◌, inl, inr, ℕ, zero, suc, ◌<◌, List, Some, None, slice_get, refl, sym, ap, subst, ◌∙◌, arith}
 use Rattle.std.proofs.lemmas.Option.{none-some}
 use Rattle.sa_unify.specs.declared.declared.Edge.{Edge}
@@ -23,7 +23,7 @@ leads-from {w = w} {t = t} e h = subst (λ x. Leads w x t) (sym e) h
 leads-to : {w : Tables} {s t t' : At} → t' ≡ t → Leads w s t' → Leads w s t
 leads-to {w = w} {s = s} e h = subst (λ x. Leads w s x) e h
 
--- the same with a class that is equal, where that is another class or the same
+-- the same from a class that is equal or that leads there
 leads_or-from : {w : Tables} (c d n : ℕ) (args : List Node) (t : At) → (c ≡ d) ⊎ Leads w (class_at c n args) (class_at d n args) → Leads w (class_at d n args) t → Leads w (class_at c n args) t
 leads_or-from c d n args t (inl e) h = leads-from (ap (λ x. class_at x n args) e) h
 leads_or-from c d n args t (inr k) h = leads-over k h
@@ -79,7 +79,7 @@ module _ (w : Tables) (tried : AreTried w) where
 
   -- ---- what the edges lead to is found
 
-  -- what an edge that is kept in the tree gives
+  -- what an edge gives that is represented in the tree
   record Parent (s t : At) : Type 0 where
     link : ParentLink
     number : ℕ
@@ -90,7 +90,7 @@ module _ (w : Tables) (tried : AreTried w) where
     count : s.count ≡ t.count
     args : s.args ≡ t.args
 
-  -- what one that is kept in a list gives
+  -- what one gives that is represented in a list
   record Root (s t : At) : Type 0 where
     edge : Edge
     lower : edge.lower ≡ s.class
@@ -161,7 +161,7 @@ module _ (w : Tables) (tried : AreTried w) where
     instance = h.instance;
   }
 
-  -- the class of an edge that is kept in a list is a root
+  -- the class of an edge that is represented in a list is a root
   root-found : (s t u : At) (root : Root s t) → InRoot root.edge.lower s.count s.args u → ByList w s u
   root-found s t u root h =
       by-root s u root.root.0 (ap (slice_get w.links) (sym root.lower) ∙ root.root.1) (inl (root.root.2 ∙ root.lower)) (subst (λ x. InRoot x s.count s.args u) (sym root.root.2) h)
@@ -187,7 +187,7 @@ module _ (w : Tables) (tried : AreTried w) where
         instance = subst (λ p. IsInstance (w.nodes p) (pair_of s.count s.args (w.name t.class) t.count t.args)) (sym listed.pair) root.instance;
       }))
 
-  -- behind an edge of the tree
+  -- after an edge of the tree
   found-parent : (s t u : At) → Parent s t → IsFound w t u → IsFound w s u
   found-parent s t u parent (inl line) =
       let above = line-from w.links parent.class line.line in
@@ -215,7 +215,7 @@ module _ (w : Tables) (tried : AreTried w) where
         instance = subst (λ l. IsInstance (w.nodes list.entry.pair) (pair_of s.count l list.head u.count u.args)) (sym parent.args) (subst (λ k. IsInstance (w.nodes list.entry.pair) (pair_of k t.args list.head u.count u.args)) (sym parent.count) list.instance);
       })
 
-  -- behind a pair of a list, in a tree
+  -- after a pair of a list, in a tree
   entry-line : (root place : ℕ) (entry : Ancestor) (n : ℕ) (args : List Node) (head : List ℕ) (m : ℕ) (above : List Node) (u : At) → InList w root place entry → IsInstance (w.nodes entry.pair) (pair_of n args head m above) → InLine w (class_at entry.upper m above) u → InRoot root n args u
   entry-line root place entry n args head m above u listed instance line =
       let arity : u.count ≡ w.arity u.class = sym line.count ∙ line.arity ∙ sym (line-arity line.line) in
@@ -229,7 +229,7 @@ module _ (w : Tables) (tried : AreTried w) where
         instance = subst (λ l. IsInstance (w.nodes entry.pair) (pair_of n args head u.count l)) line.args (subst (λ k. IsInstance (w.nodes entry.pair) (pair_of n args head k above)) line.count instance);
       }
 
-  -- behind an edge that is tried with the list of its upper class's root
+  -- after an edge that is verified with the list of the root of its supertype's class
   covered-list : (edge : Edge) (top : ℕ) → HasForm (w.nodes edge.pair) (w.name edge.upper) top → IsCovering w edge top → (n : ℕ) (args : List Node) (name : List ℕ) (m : ℕ) (meet : List Node) (u : At) → AreArgs n args → AreArgs m meet → IsInstance (w.nodes edge.pair) (pair_of n args name m meet) → ByList w (class_at edge.upper m meet) u → InRoot edge.lower n args u
   covered-list edge top form covering n args name m meet u given gives instance list = go (covering.covers list.place list.entry in_list (goes list.whole))
     where
@@ -265,7 +265,7 @@ module _ (w : Tables) (tried : AreTried w) where
           ends (inl e) = inl (covered.upper ∙ e)
           ends (inr e) = inr e
 
-  -- the edge of a list's pair is tried so, since its own pair is in the list
+  -- the edge of a list's pair is verified so, since its own pair is in the list
   record Covering (edge : Edge) : Type 0 where
     top : ℕ
     form : HasForm (w.nodes edge.pair) (w.name edge.upper) top
@@ -284,11 +284,11 @@ module _ (w : Tables) (tried : AreTried w) where
       go (inl own) = record { top = sound.above; form = sound.form; covers = own.covering }
       go (inr on) = absurd (none-some on.0 (sym has.last ∙ (on.1).later))
 
-  -- what a pair of a list leads to, and what is found behind that
+  -- what a pair of a list leads to, and what is found after that
   abbrev IsPassed : ℕ → Ancestor → Type 0
   IsPassed root entry = (n : ℕ) (args : List Node) (head : List ℕ) (m : ℕ) (above : List Node) (u : At) → AreArgs n args → AreArgs m above → IsInstance (w.nodes entry.pair) (pair_of n args head m above) → IsFound w (class_at entry.upper m above) u → InRoot root n args u
 
-  -- by a list, where the pairs before it are known
+  -- by a list, if the pairs before it are known
   entry-list : (root place : ℕ) (entry : Ancestor) → ((other next : ℕ) (second : Ancestor) → next < place → InList w other next second → IsPassed other second) → InList w root place entry → (n : ℕ) (args : List Node) (head : List ℕ) (m : ℕ) (above : List Node) (u : At) → AreArgs n args → AreArgs m above → IsInstance (w.nodes entry.pair) (pair_of n args head m above) → ByList w (class_at entry.upper m above) u → InRoot root n args u
   entry-list root place entry earlier listed n args head m above u given gives instance list = subst (λ x. InRoot x n args u) (sound.begins ∙ listed.owner) (go sound.goes)
     where
@@ -320,7 +320,7 @@ module _ (w : Tables) (tried : AreTried w) where
   entry-found (suc k) root place entry less listed n args head m above u given gives instance (inr list) =
       entry-list root place entry (λ other next second before in_list. let under : next < k = omega (arith, less, before) in entry-found k other next second under in_list) listed n args head m above u given gives instance list
 
-  -- behind an edge of a list
+  -- after an edge of a list
   found-root : (s t u : At) → Root s t → IsFound w t u → IsFound w s u
   found-root s t u root h =
       let listed = root.listed in
@@ -352,7 +352,7 @@ module _ (w : Tables) (tried : AreTried w) where
   from_root c root n args link t is e (inl same) given h = leads-from (ap (λ x. class_at x n args) (sym same)) h
   from_root c root n args link t is e (inr count) given h = leads_or-from c root n args t (line-leads (line-to w.links (sym e) (line-root w.links linked c link is)) n args count given) h
 
-  -- one pair, where those before it are known
+  -- one pair, if those before it are known
   given-entry : (place : ℕ) (entry : Ancestor) → ((next : ℕ) (second : Ancestor) → next < place → slice_get w.above next ≡ Some second → IsGivenAt second) → IsSound w place entry → IsGivenAt entry
   given-entry place entry earlier sound n args head m above given gives instance = go sound.goes
     where

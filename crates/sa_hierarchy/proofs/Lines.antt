@@ -1,4 +1,4 @@
--- The trees of classes: what is above a class stands in one line, and a jump stays on it.
+-- The trees of classes: the ancestors of a class are on one path, and a jump stays on it.
 use Rattle.std.proofs.Common.{◌≡◌, ◌⊎◌, inl, inr, ℕ, zero, suc, ◌<◌, ◌≤◌, List, Some, slice_get, refl, sym, ap, subst, ◌∙◌, arith}
 use Rattle.std.proofs.lemmas.Option.{none-some}
 use Rattle.sa_hierarchy.specs.declared.links.ParentLink.{ParentLink}
@@ -10,7 +10,7 @@ some_links l m e = cc
 some_numbers : (m n : ℕ) → Some m ≡ Some n → m ≡ n
 some_numbers m n e = cc
 
--- what is above a class has a link, and is less deep
+-- an ancestor of a class has a link, and is less deep
 pub record IsAbove (links : List ParentLink) (link : ParentLink) (c : ℕ) : Type 0 where
   pub other : ParentLink
   pub is : slice_get links c ≡ Some other
@@ -35,7 +35,7 @@ module _ (links : List ParentLink) where
   line-to {a = a} e h = subst (λ x. Line links a x) e h
 
   module _ (linked : (class : ℕ) (link : ParentLink) → slice_get links class ≡ Some link → IsLinked links class link) where
-    -- a class with an edge is below its parent
+    -- a class with an edge is a child of its parent
     pub is-below : (c : ℕ) (link : ParentLink) (number : ℕ) → slice_get links c ≡ Some link → link.edge ≡ Some number → IsBelow links link
     is-below c link number is edge = go (linked c link is)
       where
@@ -53,7 +53,7 @@ module _ (links : List ParentLink) where
         let least = more.least in
         record { other = more.other; is = more.is; least = omega (arith, same, one, least) }
 
-    -- a class is not above itself
+    -- a class is no ancestor of itself
     pub line-strict : (a b number : ℕ) (link : ParentLink) → slice_get links a ≡ Some link → link.edge ≡ Some number → Line links link.parent b → a ≡ b → ⊥
     line-strict a b number link is edge rest e =
         let below = is-below a link number is edge in
@@ -63,7 +63,7 @@ module _ (links : List ParentLink) where
         let least = more.least in
         omega (arith, same, one, least)
 
-    -- what is above a class is at another depth
+    -- an ancestor of a class is at another depth
     line-deeper : (a c number : ℕ) (found l m : ParentLink) → slice_get links a ≡ Some found → found.edge ≡ Some number → Line links found.parent c → slice_get links a ≡ Some l → slice_get links c ≡ Some m → l.depth ≡ m.depth → ⊥
     line-deeper a c number found l m on edge rest is to e =
         let below = is-below a found number on edge in
@@ -74,7 +74,7 @@ module _ (links : List ParentLink) where
         let least = more.least in
         omega (arith, lower, upper, one, least, e)
 
-    -- two classes of one depth above a class are the same
+    -- two ancestors of a class at one depth are the same
     pub line-same : {a b c : ℕ} → Line links a b → Line links a c → (l m : ParentLink) → slice_get links b ≡ Some l → slice_get links c ≡ Some m → l.depth ≡ m.depth → b ≡ c
     line-same here here l m is to e = refl
     line-same {a = a} {c = c} here (up found number on edge rest) l m is to e = absurd (line-deeper a c number found l m on edge rest is to e)
@@ -82,7 +82,7 @@ module _ (links : List ParentLink) where
     line-same {a = a} (up found number on edge rest) (up other second on' edge' more) l m is to e =
         line-same rest (line-from (ap (λ (x : ParentLink). x.parent) (same-link a found other on on')) more) l m is to e
 
-    -- a jump stays on the line, and the root is on it
+    -- a jump stays on the path, and the root is on it
     line-jumps : (fuel c : ℕ) (link : ParentLink) → slice_get links c ≡ Some link → link.depth < fuel → Line links c link.jump × Line links c link.root
     line-jumps zero c link is h = absurd (omega (arith, h))
     line-jumps (suc k) c link is h = go (λ d l i less. line-jumps k d l i less) (linked c link is)
@@ -116,7 +116,7 @@ module _ (links : List ParentLink) where
     pub line-root : (c : ℕ) (link : ParentLink) → slice_get links c ≡ Some link → Line links c link.root
     line-root c link is = let less : link.depth < suc link.depth = omega arith in (line-jumps (suc link.depth) c link is less).1
 
-    -- where a class jumps to is its parent or above it
+    -- the jump of a class is its parent or an ancestor of it
     pub line-leap : (c number : ℕ) (link : ParentLink) → slice_get links c ≡ Some link → link.edge ≡ Some number → Line links link.parent link.jump
     line-leap c number link is edge = go below.jump
       where

@@ -1,4 +1,4 @@
--- Pairs of types as lists of nodes: their parts, what two of them give, and those that keep their arguments.
+-- Pairs of types as lists of nodes: their parts, the composition of two of them, and those that keep their arguments.
 use Rattle.std.proofs.Common.{◌≡◌, ℕ, zero, suc, ◌+◌, ◌≤◌, Bool, true, false, true≢false, ◌||◌, cond, nat_eq, List, [], ◌∷◌, ◌++◌, Option, Some, refl, sym, ap, subst, ◌∙◌, arith}
 use Rattle.std.proofs.lemmas.Bool.{eqb-true, eq-eqb}
 use Rattle.std.proofs.lemmas.Option.{none-some}
@@ -44,7 +44,7 @@ same-parts n args head m above n' args' head' m' above' g g' e =
       above_same = tails (node.Class head m) (node.Class head' m') above above' both.1;
     }
 
--- a list of so many terms is a term
+-- a list of n terms is a term
 list-term : (n : ℕ) (args : List Node) → AreArgs n args → IsTerm (node.List n ∷ args)
 list-term n args g = let e : n + 0 ≡ n = omega arith in ap (following args) e ∙ g
 
@@ -64,7 +64,7 @@ form-parts nodes name top form n args head m above g i =
     let parts = same-parts n args head m above form.count (substitute i.0 form.args) name top (substitute i.0 form.ends) g (following-substitute i.0 i.1 form.args [] form.count form.given) whole in
     record { count_is = parts.count; head_is = parts.head_same; above_is = parts.count_above }
 
--- ---- what two pairs give
+-- ---- the composition of two pairs
 
 pub given-pair : (first second : List Node) (r : Option (List Node)) → IsComposed first second r → (n : ℕ) (args : List Node) (name : List ℕ) (m : ℕ) (meet : List Node) (head : List ℕ) (k : ℕ) (above : List Node) → AreArgs n args → AreArgs m meet → IsInstance first (pair_of n args name m meet) → IsInstance second (pair_of m meet head k above) → IsInstanceOf r (pair_of n args head k above)
 given-pair first second r composed n args name m meet head k above g h i j = (composed.same (pair_of n args head k above)).1 (pair_of n args name m meet, pair_of m meet head k above, i, j, follows)
@@ -130,7 +130,7 @@ counts-over from (suc n) k h = go (λ e. counts-over (suc from) n k e) (nat_eq f
 some_lists : (l m : List Node) → Some l ≡ Some m → l ≡ m
 some_lists l m e = cc
 
--- the terms behind some of them
+-- the terms after some of them
 following-plus : (nodes rest : List Node) (k n : ℕ) → following nodes (k + n) ≡ Some rest → (m : List Node) × (following nodes k ≡ Some m) × (following m n ≡ Some rest)
 following-plus nodes rest zero n h = let e : 0 + n ≡ n = omega arith in (nodes, behind_none nodes, ap (following nodes) (sym e) ∙ h)
 following-plus [] rest (suc k) n h = let e : suc k + n ≡ suc (k + n) = omega arith in absurd (none-some rest (ap (following []) (sym e) ∙ h))
@@ -139,7 +139,7 @@ following-plus (a ∷ nodes) rest (suc k) n h =
     let f : held a + (k + n) ≡ (held a + k) + n = omega arith in
     following-plus nodes rest (held a + k) n (ap (following nodes) (sym f) ∙ ap (following (a ∷ nodes)) (sym e) ∙ h)
 
--- one variable stands for the term, and the others for what they stood for
+-- one variable is bound to the term, and the others to what they were bound to
 abbrev with_term : ℕ → List Node → Values → Values
 with_term number term values k = cond (nat_eq k number) term (values k)
 
@@ -164,7 +164,7 @@ with_term-first : (number n : ℕ) (term : List Node) (values : Values) → subs
 with_term-first number n term values =
     ap (λ b. cond b term (values number) ++ substitute (with_term number term values) (counts (suc number) n)) (eq-eqb number number refl) ∙ ap (λ l. term ++ l) (with_term-later number n term values)
 
--- terms that the variables in order stand for
+-- terms to which the variables in order are bound
 pub counts-values : (from n : ℕ) (args : List Node) → AreArgs n args → (values : Values) × AreTerms values × (substitute values (counts from n) ≡ args)
 counts-values from zero args g = ((λ k. node.List 0 ∷ []), (λ k. refl), some_lists [] args (sym g ∙ behind_none args))
 counts-values from (suc n) args g =
@@ -174,7 +174,7 @@ counts-values from (suc n) args g =
     let more = counts-values (suc from) n plus.0 plus.2 in
     (with_term from split.0 more.0, with_term-terms from split.0 more.0 split.2 more.1, with_term-first from n split.0 more.0 ∙ ap (λ l. split.0 ++ l) more.2 ∙ sym split.1)
 
--- each list of so many terms is kept
+-- each list of n terms is kept
 pub kept-instance : (head : List ℕ) (n : ℕ) (args : List Node) → AreArgs n args → IsInstance (kept head n) (pair_of n args head n args)
 kept-instance head n args g =
     let v = counts-values 0 n args g in
@@ -237,7 +237,7 @@ bare-composed head rest = record { same = λ f. (there f, back f) }
         let end : f ≡ node.List 0 ∷ t.upper = t.joins ∙ ap (λ l. l ++ t.upper) (sym both.0) in
         subst (IsInstance (node.List 0 ∷ rest)) (sym (end ∙ begin)) g.3
 
--- where the first pair leads from a class without arguments to another, and the second begins at one, the second is what the two give
+-- if the first pair leads from a class without arguments to another, and the second begins at one, their composition is the second
 pub bare-gives : (first second rest : List Node) (head : List ℕ) → first ≡ node.List 0 ∷ node.Class head 0 ∷ [] → second ≡ node.List 0 ∷ rest → IsComposed first second (Some second)
 bare-gives first second rest head e f =
     subst (λ l. IsComposed l second (Some second)) (sym e) (subst (λ l. IsComposed (node.List 0 ∷ node.Class head 0 ∷ []) l (Some l)) (sym f) (bare-composed head rest))

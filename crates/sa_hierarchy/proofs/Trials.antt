@@ -1,4 +1,4 @@
--- What is tried of the tables, from its parts.
+-- What the verifier checks of the tables, from its parts.
 use Rattle.std.proofs.Common.{◌≡◌, ◌≢◌, ◌⊎◌, inl, inr, ℕ, zero, suc, ◌+◌, ◌-◌, ◌<◌, ◌≤◌, Bool, true, nat_eq, List, [], ◌∷◌, ◌++◌, Option, Some, None, slice_get, length, get_or, take, drop, refl, sym, ap, subst, ◌∙◌, append_assoc, arith, below_more}
 use Rattle.std.proofs.lemmas.List.{append_cancel_left, append-nil, take-append-drop}
 use Rattle.std.proofs.lemmas.Option.{none-some, slice_get_read, slice_get_within}
@@ -299,16 +299,16 @@ pub ruleset entries = (gives-pair, gives-passed, has-own, goes-on-with, is-own, 
 some_items : {A : Type 0} (a b : A) → Some a ≡ Some b → a ≡ b
 some_items a b e = cc
 
--- what holds of the items before one and of that one holds of those before the next
+-- what is true of the items before one and of that one is true of those before the next
 pub all-more : {A : Type 0} (P : ℕ → A → Type 0) (xs : List A) (i : ℕ) (x : A) → ((k : ℕ) (a : A) → k < i → slice_get xs k ≡ Some a → P k a) → i < length xs → x ≡ get_or xs i x → P i x → (k : ℕ) (a : A) → k < i + 1 → slice_get xs k ≡ Some a → P k a
 all-more {A = A} P xs i x all less is here k a under found =
     below_more (λ j. (b : A) → slice_get xs j ≡ Some b → P j b) i (λ j h b e. all j b h e) (λ b e. subst (P i) (some_items x b (sym (slice_get_read xs (length xs) i x refl less is) ∙ e)) here) k under a found
 
--- of all where the end has come
+-- of all at the end
 pub all-of : {A : Type 0} (P : ℕ → A → Type 0) (xs : List A) (i : ℕ) → ((k : ℕ) (a : A) → k < i → slice_get xs k ≡ Some a → P k a) → length xs ≤ i → (k : ℕ) (a : A) → slice_get xs k ≡ Some a → P k a
 all-of P xs i all end k a found = let within = slice_get_within xs k a found in all k a (omega (arith, end, within)) found
 
--- the links, the edges and the pairs that were tried so far
+-- the links, the edges and the pairs that were verified so far
 pub record LinksSoFar (w : Tables) (links : List ParentLink) (n : ℕ) : Type 0 where
   pub each : (class : ℕ) (link : ParentLink) → class < n → slice_get links class ≡ Some link → IsTriedLink w class link
 
@@ -348,7 +348,7 @@ lists-all w above i all end e = record { each = λ place entry h. all-of (IsSoun
 pub are-tried : (w : Tables) → AreTriedLinks w → AreTriedEdges w → AreTriedLists w → AreTried w
 are-tried w links edges lists = record { links = links; edges = edges; lists = lists }
 
--- the trees that were tried
+-- the trees that were verified
 pub tried-linked : (w : Tables) (links : List ParentLink) → AreTried w → links ≡ w.links → AreLinked links
 tried-linked w links tried e = record { linked = λ class link h. subst (λ l. IsLinked l class link) (sym e) ((tried.links.each class link (ap (λ l. slice_get l class) (sym e) ∙ h)).linked) }
 

@@ -1,9 +1,9 @@
--- What is refused of edges that form a cycle.
+-- The refusal of edges that form a cycle.
 use Rattle.std.specs.Prelude.{◌≡◌, ℕ, ◌<◌, ⊤, List, Some, Contains, length, map, slice_get}
 use Rattle.sa_graph.specs.Paths.{HasEdge, HasPath}
 use Rattle.sa_ast.specs.declared.class.Class.{Class}
 use Rattle.sa_ast.specs.declared.refusal.Rejection.{Rejection}
-use Rattle.sa_ast.specs.declared.refusal.Rejection.TheVariants.{NoMemory, Refused}
+use Rattle.sa_ast.specs.declared.refusal.Rejection.TheVariants.{Failed, Refused}
 use Rattle.sa_ast.specs.declared.refusal.Refusal.{Refusal}
 use Rattle.sa_ast.specs.declared.rule.Rule.TheVariants as rule
 use Rattle.sa_unify.specs.declared.declared.Edge.{Edge}
@@ -22,7 +22,7 @@ pub record IsCycleAt (classes : List Class) (number : ℕ) (refusal : Refusal) :
 
 abbrev pub NamesCycle : List Class → ℕ → Rejection → Type 0
 NamesCycle classes number (Refused refusal) = IsCycleAt classes number refusal
-NamesCycle classes number NoMemory = ⊤
+NamesCycle classes number (Failed why) = ⊤
 
 -- it is that of the first class that leads to itself
 pub record IsFirstCycle (Edge : ℕ → ℕ → Type 0) (classes : List Class) (refusal : Refusal) : Type 0 where
@@ -33,7 +33,7 @@ pub record IsFirstCycle (Edge : ℕ → ℕ → Type 0) (classes : List Class) (
 
 abbrev pub RefusesCycle : (ℕ → ℕ → Type 0) → List Class → Rejection → Type 0
 RefusesCycle Edge classes (Refused refusal) = IsFirstCycle Edge classes refusal
-RefusesCycle Edge classes NoMemory = ⊤
+RefusesCycle Edge classes (Failed why) = ⊤
 
 -- one of the edges leads from a class to another
 abbrev pub IsBetween : List WrittenEdge → ℕ → ℕ → Type 0

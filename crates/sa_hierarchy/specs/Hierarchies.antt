@@ -1,4 +1,4 @@
--- What declared edges lead to, and the tables in which it is kept:
+-- What declared edges lead to, and the tables that represent it:
 -- the trees of classes, and the lists of pairs at their roots. Types are lists of nodes here.
 use Rattle.std.specs.Prelude.{◌≡◌, ◌⊎◌, ℕ, zero, suc, ◌+◌, ◌<◌, ◌≤◌, List, [], ◌∷◌, ◌++◌, Some, None, slice_get}
 use Rattle.sa_unify.specs.declared.pattern.Node.{Node}
@@ -14,8 +14,8 @@ use Rattle.sa_unify.specs.Terms.{following, IsInstance, SameInstances, IsCompose
 
 -- ---- what declared edges lead to
 
--- all that the tables hold: the edges by their numbers, the place of each class in its tree, the pairs of the lists,
--- where the list of each root begins and ends, the nodes of a pair, and the name of a class and how many parameters it has
+-- the whole tables: the edges by their numbers, the node of each class in its tree, the pairs of the lists,
+-- the bounds of the list of each root, the nodes of a pair, and the name of a class and how many parameters it has
 pub record Tables : Type 0 where
   pub edges : List Edge
   pub links : List ParentLink
@@ -34,11 +34,11 @@ pub record At : Type 0 where
 abbrev pub class_at : ℕ → ℕ → List Node → At
 class_at class count args = record { class = class; count = count; args = args }
 
--- the arguments are so many terms
+-- the arguments are n terms
 abbrev pub AreArgs : ℕ → List Node → Type 0
 AreArgs count args = following args count ≡ Some []
 
--- the nodes of a pair: so many arguments of the lower class, and the upper class with its own
+-- the nodes of a pair: n arguments of the subtype's class, and the supertype's class with its own
 abbrev pub pair_of : ℕ → List Node → List ℕ → ℕ → List Node → List Node
 pair_of n args head m above = node.List n ∷ args ++ node.Class head m ∷ above
 
@@ -60,13 +60,13 @@ pub data Leads (w : Tables) : At → At → Type 0 where
 
 -- ---- the trees
 
--- the class is the other or below it in its tree
+-- the second class is the first or an ancestor of it in its tree
 pub data Line (links : List ParentLink) : ℕ → ℕ → Type 0 where
   here : {c : ℕ} → Line links c c
   up : {c u : ℕ} (link : ParentLink) (number : ℕ) → slice_get links c ≡ Some link
       → link.edge ≡ Some number → Line links link.parent u → Line links c u
 
--- a class that stands below its parent
+-- a class that has a parent
 pub record IsBelow (links : List ParentLink) (link : ParentLink) : Type 0 where
   pub parent : ParentLink
   pub is : slice_get links link.parent ≡ Some parent
@@ -95,7 +95,7 @@ pub record IsClimbed (links : List ParentLink) (lower depth upper : ℕ) : Type 
   pub least : link.depth ≤ depth
   pub most : (own : ParentLink) → slice_get links lower ≡ Some own → depth ≤ own.depth → depth ≤ link.depth
 
--- the class is above the other, and not above this depth
+-- the class is a proper ancestor of the other, at this depth or deeper
 pub record IsHigher (links : List ParentLink) (lower depth upper : ℕ) : Type 0 where
   pub line : Line links lower upper
   pub link : ParentLink
@@ -106,7 +106,7 @@ pub record IsHigher (links : List ParentLink) (lower depth upper : ℕ) : Type 0
 abbrev pub depth_at : List ParentLink → ℕ → ℕ
 depth_at links class = option_map_or (λ link. link.depth) (slice_get links class) 0
 
--- so many variables, in order
+-- n variables, in order
 abbrev pub counts : ℕ → ℕ → List Node
 counts from zero = []
 counts from (suc n) = node.Variable from ∷ counts (suc from) n
@@ -126,7 +126,7 @@ pub record KeepsArgs (w : Tables) (class : ℕ) (link : ParentLink) (number : �
 
 -- ---- the lists of the roots
 
--- the list of a root has the pair at this place
+-- the list of a root has the pair at this index
 pub record InList (w : Tables) (root place : ℕ) (entry : Ancestor) : Type 0 where
   pub range : ℕ × ℕ
   pub list : slice_get w.lists root ≡ Some range
@@ -135,7 +135,7 @@ pub record InList (w : Tables) (root place : ℕ) (entry : Ancestor) : Type 0 wh
   pub is : slice_get w.above place ≡ Some entry
   pub owner : entry.class ≡ root
 
--- the nodes are those of a pair whose upper class has this name and so many arguments
+-- the nodes are those of a pair whose supertype's class has this name and n arguments
 pub record HasForm (nodes : List Node) (head : List ℕ) (above : ℕ) : Type 0 where
   pub count : ℕ
   pub args : List Node
@@ -144,7 +144,7 @@ pub record HasForm (nodes : List Node) (head : List ℕ) (above : ℕ) : Type 0 
   pub given : AreArgs count args
   pub gives : AreArgs above ends
 
--- what the two pairs give has the same instances as the third
+-- the composition of the two pairs has the same instances as the third
 pub record GivesPair (first second both : List Node) : Type 0 where
   pub composed : List Node
   pub gives : IsComposed first second (Some composed)
@@ -160,12 +160,12 @@ pub record BeginsBare (nodes : List Node) : Type 0 where
   pub rest : List Node
   pub is : nodes ≡ node.List 0 ∷ rest
 
--- an edge goes on with each type that its upper class has at its own arguments:
--- with each where it is a root, and else with those that have as many arguments as it has parameters
+-- an edge composes with each type that its supertype's class has at its own arguments:
+-- with each if it is a root, and else with those that have as many arguments as it has parameters
 abbrev pub GoesOn : Tables → Edge → ℕ → ℕ → Type 0
 GoesOn w edge root count = (root ≡ edge.upper) ⊎ (count ≡ w.arity edge.upper)
 
--- what an edge and a pair of the upper class's list give is in the list of the lower class
+-- the composition of an edge and a pair of the list of the supertype's class is in the list of the subtype's class
 pub record IsCovered (w : Tables) (edge : Edge) (entry : Ancestor) : Type 0 where
   pub place : ℕ
   pub both : Ancestor
@@ -173,7 +173,7 @@ pub record IsCovered (w : Tables) (edge : Edge) (entry : Ancestor) : Type 0 wher
   pub upper : both.upper ≡ entry.upper
   pub gives : GivesPair (w.nodes edge.pair) (w.nodes entry.pair) (w.nodes both.pair)
 
--- nodes are a pair of a root's list with this upper class
+-- nodes are a pair of a root's list with this class as the supertype's
 pub record IsGivenIn (w : Tables) (root upper : ℕ) (nodes : List Node) : Type 0 where
   pub place : ℕ
   pub both : Ancestor
@@ -181,23 +181,23 @@ pub record IsGivenIn (w : Tables) (root upper : ℕ) (nodes : List Node) : Type 
   pub upper_is : both.upper ≡ upper
   pub same : SameInstances nodes (w.nodes both.pair)
 
--- an edge and the pair at a place give nothing, or a pair of the lower class's list
+-- an edge and the pair at an index don't compose, or their composition is a pair of the list of the subtype's class
 pub record IsCoveredAt (w : Tables) (edge : Edge) (place : ℕ) : Type 0 where
   pub each : (entry : Ancestor) → slice_get w.above place ≡ Some entry
       → IsComposed (w.nodes edge.pair) (w.nodes entry.pair) None ⊎ IsCovered w edge entry
 
--- the same for each place from one on up to another
+-- the same for each index from one on up to another
 pub record AreCovered (w : Tables) (edge : Edge) (first end : ℕ) : Type 0 where
   pub each : (place : ℕ) → first ≤ place → place < end → IsCoveredAt w edge place
 
--- what an edge and each pair of the upper class's list give is in the list of the lower class, where the edge goes on with it
+-- for each pair of the list of the supertype's class with which the edge composes, the composition is in the list of the subtype's class
 pub record IsCovering (w : Tables) (edge : Edge) (above : ℕ) : Type 0 where
   pub link : ParentLink
   pub is : slice_get w.links edge.upper ≡ Some link
   pub covers : (place : ℕ) (entry : Ancestor) → InList w link.root place entry → GoesOn w edge link.root above
       → IsComposed (w.nodes edge.pair) (w.nodes entry.pair) None ⊎ IsCovered w edge entry
 
--- the pair of an edge is in the list of the lower class
+-- the pair of an edge is in the list of the subtype's class
 pub record IsListed (w : Tables) (edge : Edge) : Type 0 where
   pub place : ℕ
   pub entry : Ancestor
@@ -205,7 +205,7 @@ pub record IsListed (w : Tables) (edge : Edge) : Type 0 where
   pub pair : entry.pair ≡ edge.pair
   pub upper : entry.upper ≡ edge.upper
 
--- an edge is kept in the tree or in a list
+-- an edge is represented in the tree or in a list
 pub record IsKeptEdge (w : Tables) (number : ℕ) (edge : Edge) : Type 0 where
   pub link : ParentLink
   pub is : slice_get w.links edge.lower ≡ Some link
@@ -225,7 +225,7 @@ pub record HasOwn (w : Tables) (entry : Ancestor) : Type 0 where
   pub edge : own.edge ≡ entry.edge
   pub last : own.next ≡ None
 
--- a pair of a list goes on behind its edge with an earlier one
+-- a pair of a list is the composition of its edge with an earlier one
 pub record GoesOnWith (w : Tables) (edge : Edge) (count : ℕ) (entry : Ancestor) (place next : ℕ) : Type 0 where
   pub later : entry.next ≡ Some next
   pub earlier : next < place
@@ -238,7 +238,7 @@ pub record GoesOnWith (w : Tables) (edge : Edge) (count : ℕ) (entry : Ancestor
   pub own : HasOwn w entry
   pub gives : GivesPair (w.nodes edge.pair) (w.nodes second.pair) (w.nodes entry.pair)
 
--- a pair of a list is what edges give
+-- a pair of a list is what edges compose to
 pub record IsSound (w : Tables) (place : ℕ) (entry : Ancestor) : Type 0 where
   pub edge : Edge
   pub declared : slice_get w.edges entry.edge ≡ Some edge
@@ -249,7 +249,7 @@ pub record IsSound (w : Tables) (place : ℕ) (entry : Ancestor) : Type 0 where
   pub whole : HasForm (w.nodes entry.pair) (w.name entry.upper) count
   pub goes : IsOwn w edge above entry ⊎ ((next : ℕ) × GoesOnWith w edge above entry place next)
 
--- ---- what was tried of the tables
+-- ---- what the verifier checks of the tables
 
 pub record IsTriedLink (w : Tables) (class : ℕ) (link : ParentLink) : Type 0 where
   pub linked : IsLinked w.links class link
@@ -271,7 +271,7 @@ pub record AreTried (w : Tables) : Type 0 where
 
 -- ---- what the tables say
 
--- the one is below the other in its tree, at the same arguments
+-- the second is an ancestor of the first in its tree, at the same arguments
 pub record InLine (w : Tables) (s t : At) : Type 0 where
   pub line : Line w.links s.class t.class
   pub apart : s.class ≡ t.class → ⊥
@@ -279,7 +279,7 @@ pub record InLine (w : Tables) (s t : At) : Type 0 where
   pub count : s.count ≡ t.count
   pub args : s.args ≡ t.args
 
--- a pair of the root's list leads from the one to the other, or to what is below the other in its tree
+-- a pair of the root's list leads from the one to the other, or to a type of which the other is an ancestor in its tree
 pub record ByList (w : Tables) (s t : At) : Type 0 where
   pub link : ParentLink
   pub is : slice_get w.links s.class ≡ Some link

@@ -1,4 +1,4 @@
--- The edges of the tables beside those that the classes declare.
+-- The edges of the tables and those that the classes declare.
 use Rattle.std.specs.Prelude.{◌≡◌, ℕ, List, length, Some, slice_get}
 use Rattle.sa_unify.specs.declared.declared.Edge.{Edge}
 use Rattle.sa_unify.specs.declared.written.WrittenEdge.{WrittenEdge}
@@ -12,7 +12,7 @@ pub record IsEdgeOf (w : Tables) (edge : Edge) (e : EdgeNodes) : Type 0 where
   pub upper : edge.upper ≡ e.1
   pub nodes : SameInstances e.2 (w.nodes edge.pair)
 
--- the edge with this number is it
+-- the edge with this number is this one
 pub record IsWrittenAt (w : Tables) (number : ℕ) (e : EdgeNodes) : Type 0 where
   pub edge : Edge
   pub declared : slice_get w.edges number ≡ Some edge

@@ -1,4 +1,4 @@
--- Whether a class is above another in its tree, as a test.
+-- Whether a class is an ancestor of another in its tree, as a test.
 use Rattle.std.specs.Prelude.{ℕ, zero, suc, ◌||◌, Bool, false, nat_eq, List, Option, None, Some, slice_get}
 use Rattle.std.specs.Option.{option_map, option_map_or}
 use Rattle.sa_hierarchy.specs.declared.links.ParentLink.{ParentLink}
@@ -9,7 +9,7 @@ abbrev pub parent_of : Option ParentLink → Option ℕ
 parent_of None = None
 parent_of (Some link) = option_map (λ (number : ℕ). link.parent) link.edge
 
--- whether the second class is the first or above it in its tree, at most so many classes up
+-- whether the second class is the first or an ancestor of it in its tree, at most n classes up
 unfoldable pub line_in : List ParentLink → ℕ → ℕ → ℕ → Bool
 line_in links zero lower upper = nat_eq lower upper
 line_in links (suc n) lower upper =

@@ -5,12 +5,13 @@ ghost use Rattle.sa_hierarchy.specs.Cycles.{HasEdgeIn, HasNoCycle, IsBetween, Na
 
 use crate::class_hierarchy::{Edged, Hierarchy, Lists, links_of};
 use crate::links::ParentLink;
-use sa_ast::{Class, NoMemory, Rejection, Rule};
+use failure::{Failure, Invariant};
+use sa_ast::{Class, Rejection, Rule};
 use sa_graph::{Graph, IndexGroups, put, word};
 use sa_unify::{Edge, EdgePairs, Names, WorkBudget, WrittenEdge, edges_of, lowers, uppers};
 use std::alloc::Global;
 
-/// The tables of the written edges. E18 where edges form a cycle.
+/// The tables of the written edges. E18 if edges form a cycle.
 #[tactic(auto, using(crate::proofs::Between::along))]
 pub fn build_hierarchy(
     alloc: Global,
@@ -48,7 +49,7 @@ pub fn build_hierarchy(
     })
 }
 
-/// The trees and the lists, by the order of the classes and the place of each in it.
+/// The trees and the lists, by the order of the classes and the index of each in it.
 fn tables_of(
     alloc: Global,
     work: &mut WorkBudget,
@@ -57,7 +58,7 @@ fn tables_of(
     order: &[u32],
     rank: &[u32],
     pairs: &mut EdgePairs,
-) -> Result<(Vec<ParentLink>, Lists), NoMemory> {
+) -> Result<(Vec<ParentLink>, Lists), Failure> {
     let lower = lowers(alloc, edges)?;
     let by_lower = IndexGroups::new(alloc, names.classes(), lower.as_slice())?;
     let edged = Edged {
@@ -72,7 +73,7 @@ fn tables_of(
     Ok((links, lists))
 }
 
-/// The classes, each behind those that it has edges to. E18 where edges form a cycle.
+/// The classes in topological order: each after those that it has edges to. E18 if edges form a cycle.
 #[tactic(auto, using(crate::proofs::Between::ordered))]
 fn order_of(alloc: Global, classes: &[Class], edges: &[Edge]) -> Result<Vec<u32>, Rejection>
     ensures acyclic { OnOk result (HasNoCycle (HasEdgeIn edges.now) classes.now) }
@@ -88,21 +89,26 @@ fn order_of(alloc: Global, classes: &[Class], edges: &[Edge]) -> Result<Vec<u32>
     }
 }
 
-/// The refusal at the name of a class that lies on a cycle.
+/// The refusal at the name of a class on a cycle.
 fn cycle_at(classes: &[Class], number: usize) -> Rejection
     ensures { NamesCycle classes.now number result }
 {
     match classes.get(number) {
         Some(class) => Rejection::Refused(Rule::SubtypeCycle.at(class.name.pos)),
-        None => Rejection::NoMemory,
+        None => Rejection::Failed(Failure::Broken(Invariant::HierarchyTable)),
     }
 }
 
-/// The place of each class in the order.
-fn rank_of(alloc: Global, order: &[u32]) -> Result<Vec<u32>, NoMemory> {
+/// The index of each class in the order.
+fn rank_of(alloc: Global, order: &[u32]) -> Result<Vec<u32>, Failure> {
     let mut rank = vec![in alloc; 0u32; order.len()]?;
     for (place, class) in order.iter().enumerate() {
-        put(&mut rank, *class as usize, word(place)?)?;
+        put(
+            &mut rank,
+            *class as usize,
+            word(place, Invariant::HierarchyTable)?,
+            Invariant::HierarchyTable,
+        )?;
     }
     Ok(rank)
 }

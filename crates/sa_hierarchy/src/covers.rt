@@ -1,4 +1,4 @@
-//! What two pairs give is tried: what an edge gives with the list of its upper class, and what a pair of a list is made of.
+//! Compositions are verified: those of an edge with the list of its supertype's class, and those that a pair of a list is made of.
 
 ghost use Rattle.std.specs.Prelude.{◌≡◌, IfOk, IsFalse, IsTrue};
 ghost use Rattle.sa_hierarchy.specs.Hierarchies.{AreCovered, GivesPair, GoesOn, InList, IsCoveredAt, IsCovering, IsGivenIn, tables};
@@ -8,12 +8,12 @@ use crate::class_hierarchy::{Ancestor, Hierarchy};
 use crate::entries::{Places, entry_at, range_at};
 use crate::forms::{begins_bare, is_bare};
 use crate::links::link_at;
-use sa_ast::NoMemory;
+use failure::{Failure, Invariant, broken};
 use sa_unify::{Edge, Node, WorkBudget, composed, renumbered, try_equal};
 use std::alloc::Global;
 
 impl Hierarchy {
-    /// Tries that what an edge and the list of its upper class give is in the list of the lower class.
+    /// Checks that the compositions of an edge with the list of its supertype's class are in the list of the subtype's class.
     #[tactic(auto, using(crate::proofs::Trials::edges))]
     pub(crate) fn try_covering(
         &self,
@@ -22,7 +22,7 @@ impl Hierarchy {
         places: &Places,
         edge: Edge,
         above: u32,
-    ) -> Result<(), NoMemory>
+    ) -> Result<(), Failure>
         ensures { IfOk result (λ _. IsCovering (tables self.now) edge above) }
     {
         let link = link_at(self.links.as_slice(), edge.upper)?;
@@ -34,7 +34,7 @@ impl Hierarchy {
         Ok(())
     }
 
-    /// Whether an edge to a class that has so many arguments goes on with the list of the class's root.
+    /// Whether an edge to a class that has n arguments composes with the list of the class's root.
     #[tactic(auto, using(crate::proofs::Trials::edges))]
     pub(crate) fn goes_on(&self, edge: Edge, root: u32, above: u32) -> bool
         ensures goes { IsTrue result → GoesOn (tables self.now) edge root above }
@@ -46,27 +46,27 @@ impl Hierarchy {
         above as usize == self.names.arity(edge.upper)
     }
 
-    /// The pair that the list of a root has at a place.
+    /// The pair that the list of a root has at an index.
     #[tactic(auto, using(crate::proofs::Trials::edges))]
-    pub(crate) fn listed(&self, root: u32, place: u32) -> Result<Ancestor, NoMemory>
+    pub(crate) fn listed(&self, root: u32, place: u32) -> Result<Ancestor, Failure>
         ensures { IfOk result (λ entry. InList (tables self.now) root place entry) }
     {
         let (first, end) = range_at(self.lists.as_slice(), root)?;
         let entry = entry_at(self.above.as_slice(), place)?;
         if place < first {
-            return Err(NoMemory);
+            return broken(Invariant::HierarchyTable);
         }
         if place >= end {
-            return Err(NoMemory);
+            return broken(Invariant::HierarchyTable);
         }
         if entry.class == root {
             Ok(entry)
         } else {
-            Err(NoMemory)
+            broken(Invariant::HierarchyTable)
         }
     }
 
-    /// Tries that what an edge and each pair from a place up to another give is in the list of the lower class.
+    /// Checks that the compositions of an edge with each pair from an index up to another are in the list of the subtype's class.
     #[tactic(auto, using(crate::proofs::Trials::loops))]
     fn try_covers(
         &self,
@@ -76,7 +76,7 @@ impl Hierarchy {
         edge: Edge,
         first: u32,
         end: u32,
-    ) -> Result<(), NoMemory>
+    ) -> Result<(), Failure>
         ensures { IfOk result (λ _. AreCovered (tables self.now) edge first end) }
     {
         for place in first..end {
@@ -85,7 +85,7 @@ impl Hierarchy {
         Ok(())
     }
 
-    /// Tries the same for one pair.
+    /// Checks the same for one pair.
     #[tactic(auto, using(crate::proofs::Trials::edges))]
     fn try_covered(
         &self,
@@ -94,7 +94,7 @@ impl Hierarchy {
         places: &Places,
         edge: Edge,
         place: u32,
-    ) -> Result<(), NoMemory>
+    ) -> Result<(), Failure>
         ensures { IfOk result (λ _. IsCoveredAt (tables self.now) edge place) }
     {
         let entry = entry_at(self.above.as_slice(), place)?;
@@ -116,23 +116,23 @@ impl Hierarchy {
         }
     }
 
-    /// Tries that a pair of another list is a pair of a root's list.
+    /// Checks that a pair of another list is a pair of a root's list.
     #[tactic(auto, using(crate::proofs::Trials::edges))]
-    fn try_passed(&self, places: &Places, root: u32, entry: Ancestor) -> Result<(), NoMemory>
+    fn try_passed(&self, places: &Places, root: u32, entry: Ancestor) -> Result<(), Failure>
         ensures { IfOk result (λ _. IsGivenIn (tables self.now) root entry.upper (nodes_of self.now.pairs entry.pair)) }
     {
         let own = self.listed(root, places.get(root, entry.pair)?)?;
         if own.upper != entry.upper {
-            return Err(NoMemory);
+            return broken(Invariant::HierarchyTable);
         }
         if own.pair == entry.pair {
             Ok(())
         } else {
-            Err(NoMemory)
+            broken(Invariant::HierarchyTable)
         }
     }
 
-    /// Tries that nodes whose upper class is this one are a pair of a root's list.
+    /// Checks that nodes whose supertype's class is this one are a pair of a root's list.
     #[tactic(auto, using(crate::proofs::Trials::edges))]
     fn try_given(
         &self,
@@ -141,20 +141,20 @@ impl Hierarchy {
         root: u32,
         upper: u32,
         nodes: Vec<Node>,
-    ) -> Result<(), NoMemory>
+    ) -> Result<(), Failure>
         ensures { IfOk result (λ _. IsGivenIn (tables self.now) root upper nodes.items) }
     {
         let pair = renumbered(alloc, nodes.as_slice())?;
         let number = self.pairs.number(pair.as_slice())?;
         let entry = self.listed(root, places.get(root, number)?)?;
         if entry.upper != upper {
-            return Err(NoMemory);
+            return broken(Invariant::HierarchyTable);
         }
         try_equal(self.pairs.nodes(entry.pair), pair.as_slice())?;
         Ok(())
     }
 
-    /// Tries that two pairs give a third one.
+    /// Checks that a third pair is the composition of two.
     #[tactic(auto, using(crate::proofs::Trials::entries))]
     pub(crate) fn try_both(
         &self,
@@ -163,7 +163,7 @@ impl Hierarchy {
         first: u32,
         second: u32,
         both: u32,
-    ) -> Result<(), NoMemory>
+    ) -> Result<(), Failure>
         ensures { IfOk result
             (λ _. GivesPair (nodes_of self.now.pairs first) (nodes_of self.now.pairs second) (nodes_of self.now.pairs both)) }
     {
@@ -177,7 +177,7 @@ impl Hierarchy {
             }
         }
         let Some(nodes) = composed(alloc, work, lower, upper)? else {
-            return Err(NoMemory);
+            return broken(Invariant::HierarchyTable);
         };
         let pair = renumbered(alloc, nodes.as_slice())?;
         try_equal(self.pairs.nodes(both), pair.as_slice())?;

@@ -4,40 +4,41 @@ ghost use Rattle.std.specs.Prelude.{◌≡◌, ◌++◌, IfOk, IsTrue, nat_eq};
 ghost use Rattle.std.specs.Cmp.Lexicographic.{pointwise};
 ghost use Rattle.sa_hierarchy.specs.Hierarchies.{BeginsBare, HasForm, IsBare, counts, kept};
 
-use sa_ast::{Name, NoMemory};
+use failure::{Failure, Invariant, broken};
+use sa_ast::Name;
 use sa_unify::{Node, term_end};
 use std::alloc::Global;
 
-/// Tries that the nodes are those of a pair whose upper class has this name, and gives how many arguments it has.
+/// Checks that the nodes are those of a pair whose supertype's class has this name, and gives how many arguments it has.
 #[tactic(auto, using(crate::proofs::Trials::forms))]
-pub(crate) fn try_form(nodes: &[Node], name: &[u8]) -> Result<u32, NoMemory>
+pub(crate) fn try_form(nodes: &[Node], name: &[u8]) -> Result<u32, Failure>
     ensures { IfOk result (λ above. HasForm nodes.now name.now above) }
 {
     let Some(end) = term_end(nodes, 0) else {
-        return Err(NoMemory);
+        return broken(Invariant::HierarchyTable);
     };
     if end == nodes.len() {
-        return Err(NoMemory);
+        return broken(Invariant::HierarchyTable);
     }
     if end == 0 {
-        return Err(NoMemory);
+        return broken(Invariant::HierarchyTable);
     }
     let Some(last) = term_end(nodes, end) else {
-        return Err(NoMemory);
+        return broken(Invariant::HierarchyTable);
     };
     if last != nodes.len() {
-        return Err(NoMemory);
+        return broken(Invariant::HierarchyTable);
     }
     let Node::Class(head, above) = &nodes[end] else {
-        return Err(NoMemory);
+        return broken(Invariant::HierarchyTable);
     };
     let Node::List(_) = &nodes[0] else {
-        return Err(NoMemory);
+        return broken(Invariant::HierarchyTable);
     };
     if is_named(head, name) {
         Ok(*above)
     } else {
-        Err(NoMemory)
+        broken(Invariant::HierarchyTable)
     }
 }
 
@@ -82,7 +83,7 @@ pub(crate) fn begins_bare(nodes: &[Node]) -> bool
 }
 
 /// The nodes of the pair that keeps its arguments.
-pub(crate) fn kept_nodes(alloc: Global, name: &[u8], count: u32) -> Result<Vec<Node>, NoMemory>
+pub(crate) fn kept_nodes(alloc: Global, name: &[u8], count: u32) -> Result<Vec<Node>, Failure>
     ensures { IfOk result (λ v. v.items ≡ kept name.now count) }
 {
     let mut nodes = Vec::new(alloc);
@@ -93,9 +94,9 @@ pub(crate) fn kept_nodes(alloc: Global, name: &[u8], count: u32) -> Result<Vec<N
     Ok(nodes)
 }
 
-/// Adds so many variables, in order.
+/// Adds n variables, in order.
 #[tactic(auto, using(crate::proofs::Trials::counting))]
-fn push_counts(nodes: &mut Vec<Node>, count: u32) -> Result<(), NoMemory>
+fn push_counts(nodes: &mut Vec<Node>, count: u32) -> Result<(), Failure>
     ensures { IfOk result (λ _. nodes.new.items ≡ nodes.old.items ++ counts 0 count) }
 {
     for number in 0..count {

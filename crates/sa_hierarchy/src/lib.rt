@@ -1,4 +1,4 @@
-//! What is above each class, as tables that are made of the declared edges and then tried, so that questions take no memory.
+//! The supertypes of each class, as tables that are built from the declared edges and then verified, so that queries take no memory.
 #![tactic(auto)]
 
 mod arranging;

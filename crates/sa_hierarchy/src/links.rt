@@ -1,21 +1,21 @@
-//! The trees of classes. A class with exactly one edge, which keeps its arguments, stands below the upper class of that edge.
+//! The trees of classes. The parent of a class with exactly one edge, which keeps its arguments, is the supertype's class of that edge.
 
 ghost use Rattle.std.specs.Prelude.{◌≡◌, ◌<◌, IfOk, Some, length, slice_get};
 ghost use Rattle.sa_hierarchy.specs.Lines.{in_line};
 ghost use Rattle.sa_hierarchy.specs.Hierarchies.{AreLinked, IsBelow, IsClimbed, IsHigher, IsRoot, depth_at};
 
-use sa_ast::NoMemory;
+use failure::{Failure, Invariant, broken, known};
 
-/// Where a class stands in its tree.
+/// The node of a class in its tree.
 #[derive(Clone, Copy)]
 pub struct ParentLink {
     /// The number of the edge to its parent, if it has one.
     pub edge: Option<u32>,
-    /// The class above it, or the class itself where it is a root.
+    /// The parent, or the class itself if it is a root.
     pub parent: u32,
-    /// How many classes are above it in its tree.
+    /// How many ancestors it has in its tree.
     pub depth: u32,
-    /// A class above it, so that each class above is reached by few jumps and steps; itself where it is a root.
+    /// An ancestor, so that each ancestor is reached by few jumps and steps; itself if it is a root.
     pub jump: u32,
     /// The root of its tree.
     pub root: u32,
@@ -32,13 +32,13 @@ pub(crate) fn root_link(class: u32) -> ParentLink {
     }
 }
 
-/// The link of a class with an edge to its parent. It jumps as far as two jumps of the parent where these are equally
+/// The link of a class with an edge to its parent. It jumps as far as two jumps of the parent if these are equally
 /// long, and else to the parent.
 pub(crate) fn link_below(
     links: &[ParentLink],
     edge: u32,
     parent: u32,
-) -> Result<ParentLink, NoMemory> {
+) -> Result<ParentLink, Failure> {
     let above = link_at(links, parent)?;
     let far = link_at(links, above.jump)?;
     let farther = link_at(links, far.jump)?;
@@ -55,49 +55,49 @@ pub(crate) fn link_below(
 
 /// The link of a class.
 #[tactic(auto, using(crate::proofs::Trials::reads))]
-pub(crate) fn link_at(links: &[ParentLink], class: u32) -> Result<ParentLink, NoMemory>
+pub(crate) fn link_at(links: &[ParentLink], class: u32) -> Result<ParentLink, Failure>
     ensures { IfOk result (λ link. slice_get links.now class ≡ Some link) }
 {
     let at = class as usize;
     if at < links.len() {
         Ok(links[at])
     } else {
-        Err(NoMemory)
+        broken(Invariant::HierarchyTable)
     }
 }
 
-/// Tries that the class is a root.
+/// Checks that the class is a root.
 #[tactic(auto, using(crate::proofs::Trials::reads))]
-pub(crate) fn try_root(class: u32, link: ParentLink) -> Result<(), NoMemory>
+pub(crate) fn try_root(class: u32, link: ParentLink) -> Result<(), Failure>
     ensures { IfOk result (λ _. IsRoot class link) }
 {
     if link.root != class {
-        return Err(NoMemory);
+        return broken(Invariant::HierarchyTable);
     }
     if link.jump != class {
-        return Err(NoMemory);
+        return broken(Invariant::HierarchyTable);
     }
     if link.depth != 0 {
-        return Err(NoMemory);
+        return broken(Invariant::HierarchyTable);
     }
     match link.edge {
         None => Ok(()),
-        Some(_) => Err(NoMemory),
+        Some(_) => broken(Invariant::HierarchyTable),
     }
 }
 
-/// Tries the link of a class that stands below its parent.
+/// Checks the link of a class that has a parent.
 #[tactic(auto, using(crate::proofs::Trials::reads))]
-pub(crate) fn try_below(links: &[ParentLink], link: ParentLink) -> Result<(), NoMemory>
+pub(crate) fn try_below(links: &[ParentLink], link: ParentLink) -> Result<(), Failure>
     ensures { IfOk result (λ _. IsBelow links.now link) }
 {
     let parent = link_at(links, link.parent)?;
-    let deeper = parent.depth.checked_add(1).ok_or(NoMemory)?;
+    let deeper = known(parent.depth.checked_add(1), Invariant::HierarchyTable)?;
     if link.depth != deeper {
-        return Err(NoMemory);
+        return broken(Invariant::HierarchyTable);
     }
     if link.root != parent.root {
-        return Err(NoMemory);
+        return broken(Invariant::HierarchyTable);
     }
     if link.jump == link.parent {
         return Ok(());
@@ -106,11 +106,11 @@ pub(crate) fn try_below(links: &[ParentLink], link: ParentLink) -> Result<(), No
     if link.jump == far.jump {
         Ok(())
     } else {
-        Err(NoMemory)
+        broken(Invariant::HierarchyTable)
     }
 }
 
-/// Whether the second class is the first or above it in its tree.
+/// Whether the second class is the first or an ancestor of it in its tree.
 #[tactic(auto, using(crate::proofs::Jumps::jumps))]
 pub fn has_ancestor(links: &[ParentLink], lower: u32, upper: u32) -> bool
     requires { ∥ AreLinked links.now ∥₁ }
@@ -140,7 +140,7 @@ fn found(links: &[ParentLink], class: u32) -> Option<ParentLink>
     links.get(class as usize).copied()
 }
 
-/// The depth of a class, or 0 where there is none.
+/// The depth of a class, or 0 if there is none.
 fn depth_of(links: &[ParentLink], class: u32) -> u32
     ensures { result ≡ depth_at links.now class }
 {
@@ -150,7 +150,7 @@ fn depth_of(links: &[ParentLink], class: u32) -> u32
     }
 }
 
-/// The class at this depth above a class, or the class itself where it isn't as deep.
+/// The ancestor at this depth of a class, or the class itself if it isn't as deep.
 #[tactic(auto, using(crate::proofs::Jumps::jumps))]
 fn climbed(links: &[ParentLink], lower: u32, depth: u32) -> u32
     requires linked { ∥ AreLinked links.now ∥₁ }
@@ -164,7 +164,7 @@ fn climbed(links: &[ParentLink], lower: u32, depth: u32) -> u32
     at
 }
 
-/// A class above a class that is deeper than a depth: where that isn't too far, a jump, and else its parent.
+/// An ancestor of a class that is deeper than a depth: the jump, if that isn't too far, and else its parent.
 #[tactic(auto, using(crate::proofs::Jumps::jumps))]
 fn higher(links: &[ParentLink], class: u32, depth: u32) -> u32
     requires linked { ∥ AreLinked links.now ∥₁ }

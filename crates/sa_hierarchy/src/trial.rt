@@ -1,5 +1,5 @@
-//! The tables are tried: what a proof of them rests on is compared, place by place, before a question is asked of them.
-//! Were a place wrong, want of memory would be answered.
+//! The verifier of the tables: what a proof of them rests on is compared, index by index, before the first query.
+//! Were an index wrong, the answer would be `Broken`, an internal error.
 
 ghost use Rattle.std.specs.Prelude.{◌≡◌, IfOk, None, Some};
 ghost use Rattle.sa_hierarchy.specs.Hierarchies.{AreTried, AreTriedEdges, AreTriedLinks, AreTriedLists, GoesOnWith, HasOwn};
@@ -9,15 +9,15 @@ use crate::class_hierarchy::{Ancestor, Hierarchy};
 use crate::entries::{Places, edge_at, entry_at};
 use crate::forms::{kept_nodes, try_form};
 use crate::links::{ParentLink, link_at, try_below, try_root};
-use sa_ast::NoMemory;
+use failure::{Failure, Invariant, broken};
 use sa_graph::word;
 use sa_unify::{Edge, WorkBudget, try_equal};
 use std::alloc::Global;
 
 impl Hierarchy {
-    /// Tries all tables.
+    /// Checks all tables.
     #[tactic(auto, using(crate::proofs::Trials::tried))]
-    pub fn try_tables(&self, alloc: Global, work: &mut WorkBudget) -> Result<(), NoMemory>
+    pub fn try_tables(&self, alloc: Global, work: &mut WorkBudget) -> Result<(), Failure>
         ensures { IfOk result (λ _. AreTried (tables self.now)) }
     {
         self.try_links(alloc)?;
@@ -28,19 +28,19 @@ impl Hierarchy {
     }
 
     #[tactic(auto, using(crate::proofs::Trials::loops))]
-    fn try_links(&self, alloc: Global) -> Result<(), NoMemory>
+    fn try_links(&self, alloc: Global) -> Result<(), Failure>
         ensures { IfOk result (λ _. AreTriedLinks (tables self.now)) }
     {
         let links = self.links.as_slice();
         for (class, link) in links.iter().enumerate() {
-            self.try_link(alloc, word(class)?, *link)?;
+            self.try_link(alloc, word(class, Invariant::HierarchyTable)?, *link)?;
         }
         Ok(())
     }
 
-    /// Tries the link of a class.
+    /// Checks the link of a class.
     #[tactic(auto, using(crate::proofs::Trials::links))]
-    fn try_link(&self, alloc: Global, class: u32, link: ParentLink) -> Result<(), NoMemory>
+    fn try_link(&self, alloc: Global, class: u32, link: ParentLink) -> Result<(), Failure>
         ensures { IfOk result (λ _. IsTriedLink (tables self.now) class link) }
     {
         match link.edge {
@@ -56,7 +56,7 @@ impl Hierarchy {
         }
     }
 
-    /// Tries that the edge to the parent of a class keeps the arguments.
+    /// Checks that the edge to the parent of a class keeps the arguments.
     #[tactic(auto, using(crate::proofs::Trials::links))]
     fn try_keeps(
         &self,
@@ -64,39 +64,43 @@ impl Hierarchy {
         class: u32,
         link: ParentLink,
         number: u32,
-    ) -> Result<(), NoMemory>
+    ) -> Result<(), Failure>
         ensures { IfOk result (λ _. KeepsArgs (tables self.now) class link number) }
     {
         let edge = edge_at(self.edges.as_slice(), number)?;
         let count = self.names.arity(class);
         if self.names.arity(link.parent) != count {
-            return Err(NoMemory);
+            return broken(Invariant::HierarchyTable);
         }
         if edge.lower != class {
-            return Err(NoMemory);
+            return broken(Invariant::HierarchyTable);
         }
         if edge.upper != link.parent {
-            return Err(NoMemory);
+            return broken(Invariant::HierarchyTable);
         }
-        let nodes = kept_nodes(alloc, self.names.name(link.parent), word(count)?)?;
+        let nodes = kept_nodes(
+            alloc,
+            self.names.name(link.parent),
+            word(count, Invariant::HierarchyTable)?,
+        )?;
         try_equal(self.pairs.nodes(edge.pair), nodes.as_slice())?;
         Ok(())
     }
 
     #[tactic(auto, using(crate::proofs::Trials::loops))]
-    fn try_edges(&self, places: &Places) -> Result<(), NoMemory>
+    fn try_edges(&self, places: &Places) -> Result<(), Failure>
         ensures { IfOk result (λ _. AreTriedEdges (tables self.now)) }
     {
         let edges = self.edges.as_slice();
         for (number, edge) in edges.iter().enumerate() {
-            self.try_edge(places, word(number)?, *edge)?;
+            self.try_edge(places, word(number, Invariant::HierarchyTable)?, *edge)?;
         }
         Ok(())
     }
 
-    /// Tries that an edge is kept in the tree or in a list.
+    /// Checks that an edge is represented in the tree or in a list.
     #[tactic(auto, using(crate::proofs::Trials::edges))]
-    fn try_edge(&self, places: &Places, number: u32, edge: Edge) -> Result<(), NoMemory>
+    fn try_edge(&self, places: &Places, number: u32, edge: Edge) -> Result<(), Failure>
         ensures { IfOk result (λ _. IsKeptEdge (tables self.now) number edge) }
     {
         let link = link_at(self.links.as_slice(), edge.lower)?;
@@ -104,27 +108,27 @@ impl Hierarchy {
             if own == number {
                 return Ok(());
             }
-            return Err(NoMemory);
+            return broken(Invariant::HierarchyTable);
         }
         try_root(edge.lower, link)?;
         self.try_listed(places, edge)?;
         Ok(())
     }
 
-    /// Tries that the pair of an edge is in the list of its lower class.
+    /// Checks that the pair of an edge is in the list of its subtype's class.
     #[tactic(auto, using(crate::proofs::Trials::edges))]
-    fn try_listed(&self, places: &Places, edge: Edge) -> Result<(), NoMemory>
+    fn try_listed(&self, places: &Places, edge: Edge) -> Result<(), Failure>
         ensures { IfOk result (λ _. IsListed (tables self.now) edge) }
     {
         let place = places.get(edge.lower, edge.pair)?;
         let entry = self.listed(edge.lower, place)?;
         if entry.pair != edge.pair {
-            return Err(NoMemory);
+            return broken(Invariant::HierarchyTable);
         }
         if entry.upper == edge.upper {
             Ok(())
         } else {
-            Err(NoMemory)
+            broken(Invariant::HierarchyTable)
         }
     }
 
@@ -134,17 +138,23 @@ impl Hierarchy {
         alloc: Global,
         work: &mut WorkBudget,
         places: &Places,
-    ) -> Result<(), NoMemory>
+    ) -> Result<(), Failure>
         ensures { IfOk result (λ _. AreTriedLists (tables self.now)) }
     {
         let above = self.above.as_slice();
         for (place, entry) in above.iter().enumerate() {
-            self.try_entry(alloc, work, places, word(place)?, *entry)?;
+            self.try_entry(
+                alloc,
+                work,
+                places,
+                word(place, Invariant::HierarchyTable)?,
+                *entry,
+            )?;
         }
         Ok(())
     }
 
-    /// Tries that a pair of a list is that of its edge, or what the edge and an earlier pair give.
+    /// Checks that a pair of a list is that of its edge, or the composition of the edge and an earlier pair.
     #[tactic(auto, using(crate::proofs::Trials::entries))]
     fn try_entry(
         &self,
@@ -153,12 +163,12 @@ impl Hierarchy {
         places: &Places,
         place: u32,
         entry: Ancestor,
-    ) -> Result<(), NoMemory>
+    ) -> Result<(), Failure>
         ensures { IfOk result (λ _. IsSound (tables self.now) place entry) }
     {
         let edge = edge_at(self.edges.as_slice(), entry.edge)?;
         if edge.lower != entry.class {
-            return Err(NoMemory);
+            return broken(Invariant::HierarchyTable);
         }
         let above = try_form(self.pairs.nodes(edge.pair), self.names.name(edge.upper))?;
         try_form(self.pairs.nodes(entry.pair), self.names.name(entry.upper))?;
@@ -174,7 +184,7 @@ impl Hierarchy {
         }
     }
 
-    /// Tries that a pair is that of its edge, which goes on with the pairs of the upper class's list.
+    /// Checks that a pair is that of its edge, which composes with the pairs of the list of the supertype's class.
     #[tactic(auto, using(crate::proofs::Trials::entries))]
     fn try_own(
         &self,
@@ -184,21 +194,21 @@ impl Hierarchy {
         edge: Edge,
         above: u32,
         entry: Ancestor,
-    ) -> Result<(), NoMemory>
+    ) -> Result<(), Failure>
         requires { entry.next ≡ None }
         ensures { IfOk result (λ _. IsOwn (tables self.now) edge above entry) }
     {
         if entry.pair != edge.pair {
-            return Err(NoMemory);
+            return broken(Invariant::HierarchyTable);
         }
         if entry.upper != edge.upper {
-            return Err(NoMemory);
+            return broken(Invariant::HierarchyTable);
         }
         self.try_covering(alloc, work, places, edge, above)?;
         Ok(())
     }
 
-    /// Tries that a pair is what an edge and an earlier pair give.
+    /// Checks that a pair is the composition of an edge and an earlier pair.
     #[tactic(auto, using(crate::proofs::Trials::entries))]
     fn try_next(
         &self,
@@ -209,38 +219,38 @@ impl Hierarchy {
         entry: Ancestor,
         place: u32,
         next: u32,
-    ) -> Result<(), NoMemory>
+    ) -> Result<(), Failure>
         requires { entry.next ≡ Some next }
         ensures { IfOk result (λ _. GoesOnWith (tables self.now) edge above entry place next) }
     {
         if next >= place {
-            return Err(NoMemory);
+            return broken(Invariant::HierarchyTable);
         }
         let link = link_at(self.links.as_slice(), edge.upper)?;
         let second = self.listed(link.root, next)?;
         if entry.upper != second.upper {
-            return Err(NoMemory);
+            return broken(Invariant::HierarchyTable);
         }
         if !self.goes_on(edge, link.root, above) {
-            return Err(NoMemory);
+            return broken(Invariant::HierarchyTable);
         }
         self.try_first(entry)?;
         self.try_both(alloc, work, edge.pair, second.pair, entry.pair)?;
         Ok(())
     }
 
-    /// Tries that the pair of the edge of a list's pair is in the list too.
+    /// Checks that the pair of the edge of a list's pair is in the list too.
     #[tactic(auto, using(crate::proofs::Trials::entries))]
-    fn try_first(&self, entry: Ancestor) -> Result<(), NoMemory>
+    fn try_first(&self, entry: Ancestor) -> Result<(), Failure>
         ensures { IfOk result (λ _. HasOwn (tables self.now) entry) }
     {
         let own = entry_at(self.above.as_slice(), entry.own)?;
         if own.edge != entry.edge {
-            return Err(NoMemory);
+            return broken(Invariant::HierarchyTable);
         }
         match own.next {
             None => Ok(()),
-            Some(_) => Err(NoMemory),
+            Some(_) => broken(Invariant::HierarchyTable),
         }
     }
 }

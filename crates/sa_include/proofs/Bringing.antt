@@ -1,4 +1,4 @@
--- What include clauses bring.
+-- What include clauses contribute.
 use Rattle.std.proofs.Common.{◌≡◌, ℕ, ◌+◌, ◌<◌, ◌≤◌, Bool, true, List, [], ◌∷◌, Option, None, Some, length, flat_map, get_or, slice_get, take, take_all, refl, sym, ap, subst, ◌∙◌, ◌⊎◌, inl, inr, arith}
 use Rattle.std.proofs.Math.Path.{fun_ext}
 use Rattle.std.proofs.lemmas.List.Elements.{All-more, All-nil}
@@ -17,10 +17,10 @@ use Rattle.sa_ast.specs.declared.ty.Ty.TheOpen.{Ty-F}
 use Rattle.sa_ast.specs.declared.ty.Ty.TheVariants as ty
 use Rattle.sa_ast.specs.declared.ty.Ty.TheViews.{out-Ty, out-roll-Ty}
 use Rattle.sa_ast.specs.Types.{bare}
-use Rattle.sa_types.specs.Substitution.{given_for, substituted}
-use Rattle.sa_types.specs.Table.{IsTableFor, put_in, value_in}
-use Rattle.sa_types.specs.declared.sig.Sig.{Sig}
-use Rattle.sa_types.specs.declared.substitution.Substitution.{Substitution}
+use Rattle.sa_subst.specs.Substitution.{given_for, substituted}
+use Rattle.sa_subst.specs.Table.{IsTableFor, put_in, value_in}
+use Rattle.sa_subst.specs.declared.sig.Sig.{Sig}
+use Rattle.sa_subst.specs.declared.substitution.Substitution.{Substitution}
 use Rattle.sa_include_conflicts.specs.Clashes.{NoneClash}
 use Rattle.sa_include_conflicts.specs.IncludedFeatures.{HasSignatures, has_included}
 use Rattle.sa_include_conflicts.specs.KnownSignatures.{signatures_of}
@@ -90,12 +90,12 @@ clause_brings number whole c clause place included by params given same known ch
 
 -- ---- all classes
 
--- the features of a class were tried, as those of one that is immutable or isn't
+-- the features of a class were checked, as those of one that is immutable or isn't
 pub is_apart : (c : Class) (immutable : Bool) (features : List Feature) → immutable ≡ is_immutable c.kind → features ≡ c.features → NoneClash immutable features → IsApart c
 is_apart c immutable features is_immutable_class is_features none =
     subst (λ b. NoneClash b c.features) is_immutable_class (subst (NoneClash immutable) is_features none)
 
--- no two features of a class up to one conflict, and each of its clauses brings all
+-- no two features of a class up to one conflict, and each of its clauses contributes everything
 pub record TriedUpTo (classes whole : List Class) (n : ℕ) : Type 0 where
   pub apart : All IsApart (take n whole)
   pub each : (place : ℕ) (written c : Class) → place < n → slice_get classes place ≡ Some written → slice_get whole place ≡ Some c → All (BringsAll (number_of classes) whole c) written.includes

@@ -46,15 +46,15 @@ module _ {A : Type 0} where
 gap : (a b : ℕ) → a ≤ b → (i : ℕ) × (a + i ≡ b)
 gap a b le = (b - a, omega (arith, le))
 
--- ---- features one behind the other, the first of them at the place `from`
+-- ---- features one after the other, the first of them at the index `from`
 
 module _ (features : ClassFeatures) (stays : List Bool) where
-  -- these stand there, and which stay is known of each by itself
+  -- these are there, and which stay is known of each by itself
   record IsPart (from : ℕ) (xs : List Feature) (keep : Feature → Bool) : Type 0 where
     at : (i : ℕ) (f : Feature) → slice_get xs i ≡ Some f → slice_get (all_features features) (from + i) ≡ Some f
     kept : (i : ℕ) (f : Feature) → slice_get xs i ≡ Some f → is_set stays (from + i) ≡ keep f
 
-  -- what a class writes, and what its includes bring
+  -- what a class writes, and what it includes
   module _ (known : stays ≡ all_stay features) where
     abbrev inherited : List Feature
     inherited = features.inherited.now
@@ -273,7 +273,7 @@ module _ (features : ClassFeatures) (conflicts : Conflicts) (stays : List Bool) 
             (subst (IsFirstConflict conflicts stays (length features.inherited.now) to) (sym following.1) (subst (λ n. IsFirstConflict conflicts stays n to place) is_first found))
             (ap (slice_get features.written.now) (own_place following.0 following.1) ∙ second_part_back features.inherited.now features.written.now place f le at)
 
-    -- whether two brought features that stay conflict
+    -- whether two included features that stay conflict
     pub no_brought_conflict : (to : ℕ) → to ≡ length features.inherited.now → NoConflict conflicts stays 0 to → do_brought_clash features.immutable features.inherited.now features.written.now features.inherited.now ≡ false
     no_brought_conflict to is_to none =
         subst (λ xs. do_brought_clash features.immutable features.inherited.now features.written.now xs ≡ false) (take_all (length features.inherited.now) features.inherited.now (omega arith))

@@ -31,7 +31,7 @@ module _ {A : Type 0} (test : List A → Bool) where
   unfolding first_with
   one_with xs i x at here none = one_behind [] xs i x at here none
 
--- ---- elements that pass a test, by their places
+-- ---- elements that pass a test, by their indices
 
 module _ {A : Type 0} where
   one_of : {x y : A} → Some x ≡ Some y → x ≡ y
@@ -87,7 +87,7 @@ module _ {A : Type 0} where
 -- ---- two features that stay and conflict
 
 module _ (immutable : Bool) (keep : Feature → Bool) where
-  -- the first of them stands at a place before the other
+  -- the first of them is at an index before the other
   pub record IsPair (xs : List Feature) (before place : ℕ) : Type 0 where
     pub earlier : Feature
     pub later : Feature

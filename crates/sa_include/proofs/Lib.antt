@@ -4,5 +4,5 @@ pub mod Firsts
 pub mod Conflicting
 pub mod Refusing
 pub mod Resolving
-pub mod Renamings
+pub mod RenamingLemmas
 pub mod Bringing

@@ -1,4 +1,4 @@
--- A part of a feature in which nothing is put in place of anything is as it was.
+-- A part of a feature in which nothing is substituted for anything is as it was.
 use Rattle.std.proofs.Common.{◌≡◌, ℕ, List, [], Option, None, Some, refl, sym, ap, ◌∙◌}
 use Rattle.std.specs.Option.{option_map}
 use Rattle.sa_ast.specs.declared.class.TypeParam.{TypeParam}
@@ -8,8 +8,8 @@ use Rattle.sa_ast.specs.declared.expr.Expr.{Expr}
 use Rattle.sa_ast.specs.declared.pos.Pos.{Pos}
 use Rattle.sa_ast.specs.declared.ty.Ty.{Ty}
 use Rattle.sa_ast.specs.declared.ty.Ty.TheVariants as ty
-use Rattle.sa_types.specs.Table.{IsTableFor, put_in, value_in}
-use Rattle.sa_types.specs.declared.substitution.Substitution.{Substitution}
+use Rattle.sa_subst.specs.Table.{IsTableFor, put_in, value_in}
+use Rattle.sa_subst.specs.declared.substitution.Substitution.{Substitution}
 use Rattle.sa_subst.specs.Trees.{expr_with}
 use Rattle.sa_subst.proofs.Unchanged.{expr_with-same, substituted-nothing}
 use Rattle.sa_include.specs.Parts.{PutsNothing, part_with}

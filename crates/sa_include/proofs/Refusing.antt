@@ -1,4 +1,4 @@
--- What a program is refused by for its includes.
+-- The refusals of a program for its includes.
 use Rattle.std.proofs.Common.{◌≡◌, ℕ, ◌||◌, ◌+◌, ◌<◌, ◌≤◌, true, false, Bool, List, [], Option, None, Some, length, get_or, slice_get, refl, sym, ap, subst, ◌∙◌, inl, inr, arith}
 use Rattle.std.proofs.lemmas.List.Elements.{Contains-get_or}
 use Rattle.std.proofs.lemmas.Option.{get_or_from_slice_get, slice_get_within}
@@ -57,7 +57,7 @@ module _ (features : ClassFeatures) (conflicts : Conflicts) (stays : List Bool) 
   a_written first to place f refusal is_first found at is =
       ap Some is ∙ sym (ap (at_name rule.FeaturesConflict) (a_written_conflict features conflicts stays grouped known first to place f is_first found at))
 
-  -- ---- the features that includes bring
+  -- ---- the features that a class includes
 
   pub brought_conflict : (last : ℕ) (conflict : Option ℕ) → last ≡ length features.inherited.now → MatchOption conflict (NoConflict conflicts stays 0 last) (IsFirstConflict conflicts stays 0 last) → is_some conflict ≡ do_brought_clash features.immutable features.inherited.now features.written.now features.inherited.now
   brought_conflict last None is none = sym (no_brought_conflict features conflicts stays grouped known last is none)
@@ -135,7 +135,7 @@ module _ (classes : List Class) (c : Class) (features : ClassFeatures) (changes 
     written_is : written ≡ at_name rule.FeaturesConflict conflict
     written_is = is_written ∙ ap (at_name rule.FeaturesConflict) conflict_is
 
-    -- where no change is refused
+    -- if no renaming is refused
     following : (found clauses : Option Refusal) → Due clauses → found ≡ option_or written (option_or clauses stub) → IsVerdict classes c found
     following found clauses due is =
         verdict found clauses due
@@ -178,9 +178,9 @@ has_features c features among immutable written is none = record { immutable = i
 
 pub ruleset verdicts_at = (verdict_at, has_features)
 
--- ---- refusals of changes and of clauses
+-- ---- refusals of renamings and of clauses
 
--- what a list has at a place is in it
+-- what a list has at an index is in it
 there : {A : Type 0} (xs : List A) (i : ℕ) (x : A) → slice_get xs i ≡ Some x → Contains xs x
 there xs i x at = subst (Contains xs) (get_or_from_slice_get xs i x x at) (Contains-get_or xs i x (slice_get_within xs i x at))
 
@@ -202,7 +202,7 @@ of_this_type clauses i clause pos refusal at is_pos is = record {
   is = is ∙ ap (λ p. record { rule = rule.IncludedFeaturesConflict; pos = p }) is_pos;
 }
 
--- ---- what is gathered of the clauses up to a place
+-- ---- what is collected of the clauses up to an index
 
 pub record IsGatheredUpTo (clauses : List Include) (place : ℕ) (features : List Feature) (refusal : Option Refusal) : Type 0 where
   pub none : place ≡ 0 → features ≡ []

@@ -1,4 +1,4 @@
--- The classes are gone through, each behind those that it includes, until the first in text order is refused.
+-- The classes are resolved, each after those that it includes, until the first in source order is refused.
 use Rattle.std.proofs.Common.{◌≡◌, ℕ, zero, suc, ◌+◌, ◌<◌, ◌≤◌, true, false, List, [], ◌∷◌, ◌++◌, None, Some, length, set, slice_get, refl, sym, ap, subst, ◌∙◌, ◌⊎◌, inl, inr, arith}
 use Rattle.std.proofs.lemmas.Bool.{cases_eq, false≢true}
 use Rattle.sa_ast.specs.declared.class.Class.{Class}
@@ -36,7 +36,7 @@ module _ {A : Type 0} where
 pub knows_includes : (program : IncludeProgram) → HasNumbers program.classes.now program.includes.now.numbers → AreArrays program.classes.now program.includes.now.arrays.items → KnowsIncludes program
 knows_includes program numbers arrays = record { numbers = numbers; arrays = arrays }
 
--- ---- none is gone through
+-- ---- none is resolved
 
 pub none_undone : (resolved : List Flattened) → resolved ≡ [] → AreUndone resolved
 none_undone resolved is = record { each = λ place f at. absurd (nothing place f (ap (λ rs. slice_get rs place) (sym is) ∙ at)) }
@@ -57,7 +57,7 @@ undone_too old new f before undone pushed = record {
 
 pub ruleset undone = (none_undone, undone_too)
 
--- ---- which are gone through without a refusal, from a place on
+-- ---- which are resolved without a refusal, from an index on
 
 module _ (resolved : List Flattened) (from : ℕ) where
   pub none_done : AreDone resolved from from

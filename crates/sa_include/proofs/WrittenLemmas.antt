@@ -9,7 +9,7 @@ wins_among_more : (features : List Feature) (more : Feature) (f : Feature) → W
 wins_among_more features more f (inl stub) = inl stub
 wins_among_more features more f (inr has) = inr (Contains-append_left features (more ∷ []) f has)
 
--- one more written feature, whose copy is put behind the others
+-- one more written feature, whose copy is put after the others
 pub wins_copied : (features : List Feature) (copy : Feature) (written : List Feature) (i : ℕ) (d : Feature) → i < length written → All (Wins features) (take i written) → copy ≡ get_or written i d → All (Wins (features ++ copy ∷ [])) (take (i + 1) written)
 wins_copied features copy written i d lt all same =
     All-more (Wins (features ++ copy ∷ [])) written i d lt

@@ -7,10 +7,10 @@ use Rattle.sa_include_conflicts.specs.Clashes.{do_clash}
 use Rattle.sa_include_conflicts.specs.Staying.{stays_inherited, stays_written}
 use Rattle.sa_include_conflicts.specs.Stub.{is_partial, is_stub_part}
 
--- ---- the element with which a list that is gone through from its beginning first passes a test
+-- ---- the element with which a list that is traversed from its beginning first passes a test
 
 module _ {A : Type 0} (test : List A → Bool) where
-  -- where these were gone through already
+  -- after the elements that were seen already
   abbrev pub first_following : List A → List A → Option A
   first_following seen [] = None
   first_following seen (x ∷ more) = cond (test (seen ++ x ∷ [])) (Some x) (first_following (seen ++ x ∷ []) more)
@@ -28,7 +28,7 @@ module _ (immutable : Bool) where
 
   -- a class has the first of these lists by its includes, and writes the second
   module _ (inherited written : List Feature) where
-    -- whether two of these brought features stay and conflict
+    -- whether two of these included features stay and conflict
     abbrev pub do_brought_clash : List Feature → Bool
     do_brought_clash features = do_any_clash (filter (stays_inherited immutable inherited written) features)
 

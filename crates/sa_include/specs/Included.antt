@@ -1,4 +1,4 @@
--- What a class has of what its include clauses bring.
+-- What a class has of what its include clauses contribute.
 use Rattle.std.specs.Prelude.{◌≡◌, Bool, true, ℕ, List, [], Option, None, Some, MatchOption, ⊤, find, flat_map, nat_eq, slice_get}
 use Rattle.std.specs.Cmp.Lexicographic.{pointwise}
 use Rattle.std.specs.List.{All}
@@ -12,17 +12,17 @@ use Rattle.sa_ast.specs.declared.ty.Ty.TheOpen.{Ty-F}
 use Rattle.sa_ast.specs.declared.ty.Ty.TheVariants as ty
 use Rattle.sa_ast.specs.declared.ty.Ty.TheViews.{out-Ty}
 use Rattle.sa_ast.specs.Types.{bare}
-use Rattle.sa_types.specs.Substitution.{given_for, substituted}
-use Rattle.sa_types.specs.declared.sig.Sig.{Sig}
+use Rattle.sa_subst.specs.Substitution.{given_for, substituted}
+use Rattle.sa_subst.specs.declared.sig.Sig.{Sig}
 use Rattle.sa_include_conflicts.specs.IncludedFeatures.{has_included}
 use Rattle.sa_include_conflicts.specs.KnownSignatures.{signatures_of}
 use Rattle.sa_include_names.specs.Includes.{number_named}
 use Rattle.sa_include_names.specs.Names.{number_of}
 use Rattle.sa_include.specs.Flattened.{is_immutable}
 
--- ---- the name under which a feature is brought
+-- ---- the name under which a feature is included
 
--- the first change of a name
+-- the first renaming of a name
 abbrev pub change_of : List FeatureModifier → List ℕ → Option FeatureModifier
 change_of changes name = find (λ c. pointwise nat_eq c.from.name name) changes
 
@@ -34,7 +34,7 @@ name_after name (Some change) = change.to
 abbrev pub included_name : List FeatureModifier → List ℕ → Option (List ℕ)
 included_name changes name = name_after name (change_of changes name)
 
--- ---- the types that are put in
+-- ---- the types that are substituted
 
 abbrev pub given_level : Ty-F Ty ModeTy → List Ty
 given_level (Ty-F.Named name given pos) = given
@@ -44,13 +44,13 @@ given_level _ = []
 unfoldable pub given_in : Ty → List Ty
 given_in t = given_level (out-Ty t)
 
--- they stand for the parameters of the included class, and SAME stays SAME
+-- they are substituted for the parameters of the included class, and SAME stays SAME
 abbrev pub put_by : Class → Class → Include → Ty → Ty
 put_by c included clause = substituted (given_for included.params (given_in clause.ty)) (ty.Same c.name.pos)
 
 -- ---- what a class has
 
--- by these changes a feature is left out, or its name and its types change so and one of these signatures conflicts with it, as those
+-- by these renamings a feature is left out, or its name and its types change so and one of these signatures conflicts with it, as those
 -- of the feature itself do
 abbrev pub IsInherited : List FeatureModifier → (Ty → Ty) → Bool → List Sig → Feature → Type 0
 IsInherited changes put immutable known f =
@@ -67,7 +67,7 @@ pub record BringsAll (number : List ℕ → Option ℕ) (whole : List Class) (c 
       (flat_map (signatures_of (is_immutable c.kind)) c.features))
       included.features
 
--- each clause of each class brings all
+-- each clause of each class contributes everything
 pub record AreIncluded (classes whole : List Class) : Type 0 where
   pub each : (place : ℕ) (written c : Class) → slice_get classes place ≡ Some written → slice_get whole place ≡ Some c
       → All (BringsAll (number_of classes) whole c) written.includes

@@ -1,4 +1,4 @@
--- What the classes of a program are refused by for their includes.
+-- The refusals of a program's classes for their includes.
 use Rattle.std.specs.Prelude.{◌≡◌, ◌⊎◌, ◌||◌, ◌<◌, Bool, ℕ, List, [], Option, None, Some, Contains, IfSome, MatchOption, is_some, slice_get}
 use Rattle.std.specs.Option.{option_map, option_or}
 use Rattle.sa_ast.specs.declared.class.FeatureModifier.{FeatureModifier}
@@ -26,7 +26,7 @@ use Rattle.sa_include.specs.declared.clause.CollectedFeatures.{CollectedFeatures
 abbrev pub at_name : Rule → Option Feature → Option Refusal
 at_name by found = option_map (λ f. record { rule = by; pos = f.name.pos }) found
 
--- where a type stands
+-- the position of a type
 abbrev pub pos_level : Ty-F Ty ModeTy → Pos
 pos_level (Ty-F.Named name given pos) = pos
 pos_level (Ty-F.Same pos) = pos
@@ -36,7 +36,7 @@ pos_level (Ty-F.Iter args of pos) = pos
 unfoldable pub type_pos : Ty → Pos
 type_pos t = pos_level (out-Ty t)
 
--- E16, at the name of one of these changes
+-- E16, at the name of one of these renamings
 pub record IsOfChange (changes : List FeatureModifier) (refusal : Refusal) : Type 0 where
   pub change : FeatureModifier
   pub has : Contains changes change
@@ -54,18 +54,18 @@ pub record IsOfType (clauses : List Include) (refusal : Refusal) : Type 0 where
   pub has : Contains clauses clause
   pub is : refusal ≡ record { rule = rule.IncludedFeaturesConflict; pos = type_pos clause.ty }
 
--- these are the features of a class, of which its includes bring none where it has no includes
+-- these are the features of a class, of which its includes contribute none if it has no includes
 pub record HasFeatures (c : Class) (features : ClassFeatures) : Type 0 where
   pub no_includes : c.includes ≡ [] → features.inherited.now ≡ []
   pub immutable : features.immutable ≡ is_immutable c.kind
   pub written : features.written.now ≡ c.features
 
--- what the includes of a class bring, and the refusal of one of their changes
+-- what a class includes, and the refusal of one of its renamings
 pub record IsGathered (c : Class) (gathered : CollectedFeatures) : Type 0 where
   pub no_includes : c.includes ≡ [] → gathered.features.items ≡ []
   pub of_change : IfSome gathered.refusal (IsOfClause c.includes)
 
--- the first refusal of a class whose includes bring these features: that of a change (E16); else E11; else that of a clause (E17);
+-- the first refusal of a class whose includes contribute these features: that of a renaming (E16); else E11; else that of a clause (E17);
 -- else E22
 abbrev pub first_refusal : Class → List Feature → Option Refusal → Option Refusal → Option Refusal
 first_refusal c inherited changes clauses =
@@ -74,7 +74,7 @@ first_refusal c inherited changes clauses =
     (option_or clauses
     (at_name rule.StubLeft (left_stub c.kind (staying_features (is_immutable c.kind) inherited c.features)))))
 
--- E17 comes exactly where two of the brought features conflict, as is told, or two clauses bring an array part
+-- E17 comes exactly if two of the included features conflict, as reported, or two clauses include an array part
 pub record IsClauseRefusal (classes : List Class) (c : Class) (conflict : Bool) (refusal : Option Refusal) : Type 0 where
   pub second : Option ℕ
   pub is_second : MatchOption second (HasOneArray classes c.includes) (IsSecondArray classes c.includes)
@@ -83,7 +83,7 @@ pub record IsClauseRefusal (classes : List Class) (c : Class) (conflict : Bool) 
 
 -- this is the first refusal of a class of these, or it has none
 pub record IsVerdict (classes : List Class) (c : Class) (found : Option Refusal) : Type 0 where
-  -- its includes bring these features
+  -- its includes contribute these features
   pub inherited : List Feature
   pub no_includes : c.includes ≡ [] → inherited ≡ []
   pub changes : Option Refusal

@@ -1,4 +1,4 @@
--- What is known of the classes of a program while their includes are gone through, each behind those that it includes.
+-- The facts of the classes of a program while their includes are resolved, each after those that it includes.
 use Rattle.std.specs.Prelude.{◌≡◌, ◌<◌, ◌≤◌, true, false, ℕ, List, None, Some, slice_get}
 use Rattle.sa_ast.specs.declared.class.Class.{Class}
 use Rattle.sa_ast.specs.declared.refusal.Refusal.{Refusal}
@@ -13,7 +13,7 @@ pub record KnowsIncludes (program : IncludeProgram) : Type 0 where
   pub numbers : HasNumbers program.classes.now program.includes.now.numbers
   pub arrays : AreArrays program.classes.now program.includes.now.arrays.items
 
--- none is gone through yet
+-- none is resolved yet
 pub record AreUndone (resolved : List Flattened) : Type 0 where
   pub each : (place : ℕ) (f : Flattened) → slice_get resolved place ≡ Some f → f.done ≡ false
 
@@ -28,18 +28,18 @@ pub record IsGoneThrough (classes : List Class) (done : List Flattened) (count :
   pub accepted : AreAccepted classes count
 
 module _ (resolved : List Flattened) where
-  -- a class was gone through, and isn't refused
+  -- a class was resolved, and isn't refused
   pub record IsDone (place : ℕ) : Type 0 where
     pub flattened : Flattened
     pub at : slice_get resolved place ≡ Some flattened
     pub done : flattened.done ≡ true
     pub none : flattened.refusal ≡ None
 
-  -- nor are those from a place up to another
+  -- nor are those from an index up to another
   pub record AreDone (from to : ℕ) : Type 0 where
     pub each : (place : ℕ) → from ≤ place → place < to → IsDone place
 
-  -- the first class from a place up to another that is refused is so by this refusal
+  -- the first class from an index up to another that is refused is so by this refusal
   pub record IsRefusedFrom (from to : ℕ) (refusal : Refusal) : Type 0 where
     pub place : ℕ
     pub within : place < to

@@ -1,5 +1,5 @@
 //! The features of one class, from those of the classes that it includes and its own, and its first refusal: two features
-//! that it writes conflict (E11), two that its includes bring do or both have an array part (E17), or a stub is left.
+//! that it writes conflict (E11), two that it includes do or both have an array part (E17), or a stub is left.
 
 ghost use Rattle.std.specs.Prelude.{◌≡◌, ◌||◌, IfOk, IfSome, is_some};
 ghost use Rattle.sa_include.specs.Firsts.{do_brought_clash, left_stub, staying_features, written_conflict};
@@ -22,7 +22,8 @@ use crate::clause::{CollectedFeatures, collect_features};
 use crate::resolved::{Flattened, IncludeProgram};
 use crate::substitute::Maker;
 use crate::whole::is_immutable;
-use sa_ast::{Class, ClassKind, Feature, NoMemory, Pos, Refusal, Rule, Ty};
+use failure::{Failure, Invariant};
+use sa_ast::{Class, ClassKind, Feature, Pos, Refusal, Rule, Ty};
 use sa_graph::entry;
 use sa_include_conflicts::{
     ClassFeatures, Conflicts, first_conflict, group_features, is_set, item, remaining_stub,
@@ -39,7 +40,7 @@ pub(crate) fn flatten_class(
     resolved: &[Flattened],
     maker: &mut Maker<'_>,
     number: u32,
-) -> Result<Flattened, NoMemory>
+) -> Result<Flattened, Failure>
     requires { KnowsIncludes program.now }
     ensures { IfOk result (λ flattened. IsVerdictAt program.now.classes.now number flattened.refusal) }
 {
@@ -49,21 +50,21 @@ pub(crate) fn flatten_class(
     kept(alloc, gathered, judged)
 }
 
-/// Which features of a class stay, by their places, and its first refusal.
+/// Which features of a class stay, by their indices, and its first refusal.
 #[derive(Drop)]
 struct ConflictVerdict {
     stays: Vec<bool>,
     refusal: Option<Refusal>,
 }
 
-/// Which features stay of those that the includes of a class bring and of those that it writes.
+/// Which features stay of those that a class includes and of those that it writes.
 #[tactic(auto, using(crate::proofs::Refusing::verdicts_at))]
 fn find_conflicts(
     alloc: Global,
     program: &IncludeProgram<'_>,
     class: &Class,
     gathered: &CollectedFeatures,
-) -> Result<ConflictVerdict, NoMemory>
+) -> Result<ConflictVerdict, Failure>
     requires includes { KnowsIncludes program.now }
     requires gathered { IsGathered class.now gathered.now }
     ensures { IfOk result (λ judged. IsVerdict program.now.classes.now class.now judged.refusal) }
@@ -81,7 +82,7 @@ fn find_conflicts(
     Ok(ConflictVerdict { stays, refusal })
 }
 
-/// The first refusal of a class with these features. That of a change comes before the others.
+/// The first refusal of a class with these features. That of a renaming comes before the others.
 #[tactic(auto, using(crate::proofs::Refusing::verdicts))]
 fn first_refusal(
     alloc: Global,
@@ -91,7 +92,7 @@ fn first_refusal(
     features: &ClassFeatures<'_>,
     conflicts: &Conflicts,
     stays: &[bool],
-) -> Result<Option<Refusal>, NoMemory>
+) -> Result<Option<Refusal>, Failure>
     requires includes { KnowsIncludes program.now }
     requires changes { IfSome gathered.now.refusal (IsOfClause class.now.includes) }
     requires features { HasFeatures class.now features.now }
@@ -120,7 +121,7 @@ fn written_refused(
     features: &ClassFeatures<'_>,
     conflicts: &Conflicts,
     stays: &[bool],
-) -> Result<Option<Refusal>, NoMemory>
+) -> Result<Option<Refusal>, Failure>
     requires grouped { AreGrouped features.now conflicts.now }
     requires stays { stays.now ≡ all_stay features.now }
     ensures { IfOk result (λ refusal. refusal ≡
@@ -134,7 +135,7 @@ fn written_refused(
     Ok(Some(Rule::FeaturesConflict.at(pos)))
 }
 
-/// The refusal of the first clause that brings a feature that conflicts with an earlier brought one, or that is the second
+/// The refusal of the first clause that includes a feature that conflicts with an earlier included one, or that is the second
 /// with an array part.
 #[tactic(auto, using(crate::proofs::Refusing::clauses_refused))]
 fn clause_refused(
@@ -145,7 +146,7 @@ fn clause_refused(
     features: &ClassFeatures<'_>,
     conflicts: &Conflicts,
     stays: &[bool],
-) -> Result<Option<Refusal>, NoMemory>
+) -> Result<Option<Refusal>, Failure>
     requires includes { KnowsIncludes program.now }
     requires grouped { AreGrouped features.now conflicts.now }
     requires stays { stays.now ≡ all_stay features.now }
@@ -164,32 +165,32 @@ fn clause_refused(
     Ok(Some(Rule::IncludedFeaturesConflict.at(pos_of(&include.ty))))
 }
 
-/// The first include clause that is refused: the one that brings the first brought feature that conflicts with an earlier
-/// one, or the second one with an array part. `clauses` has the clause of each brought feature.
+/// The first include clause that is refused: the one that includes the first included feature that conflicts with an earlier
+/// one, or the second one with an array part. `clauses` has the clause of each included feature.
 fn refused_clause(
     clauses: &[usize],
     conflict: Option<usize>,
     arrays: Option<usize>,
-) -> Result<Option<usize>, NoMemory>
+) -> Result<Option<usize>, Failure>
     ensures { IfOk result (λ clause. is_some clause ≡ (is_some conflict || is_some arrays)) }
 {
     let Some(place) = conflict else {
         return Ok(arrays);
     };
-    let clause = entry(clauses, place)?;
+    let clause = entry(clauses, place, Invariant::IncludeTable)?;
     match arrays {
         Some(second) => Ok(Some(clause.min(second))),
         None => Ok(Some(clause)),
     }
 }
 
-/// The refusal of the first stub that is left.
+/// The refusal of the first stub that stays.
 #[tactic(auto, using(crate::proofs::Refusing::stubs_left))]
 fn stub_refused(
     kind: ClassKind,
     features: &ClassFeatures<'_>,
     stays: &[bool],
-) -> Result<Option<Refusal>, NoMemory>
+) -> Result<Option<Refusal>, Failure>
     requires { stays.now ≡ all_stay features.now }
     ensures { IfOk result (λ refusal. refusal ≡ at_name rule.StubLeft
         (left_stub kind (staying_features features.now.immutable features.now.inherited.now features.now.written.now))) }
@@ -212,12 +213,12 @@ fn pos_of(ty: &Ty) -> Pos
     }
 }
 
-/// What stays of the features of a class.
+/// The features of a class that stay.
 fn kept(
     alloc: Global,
     gathered: CollectedFeatures,
     judged: ConflictVerdict,
-) -> Result<Flattened, NoMemory>
+) -> Result<Flattened, Failure>
     ensures { IfOk result (λ flattened. flattened.refusal ≡ judged.refusal) }
 {
     let CollectedFeatures { features, open, .. } = gathered;
@@ -268,7 +269,7 @@ fn marks_of_staying(
     Ok(kept)
 }
 
-/// The marks from a place on.
+/// The marks from an index on.
 fn marks_from(alloc: Global, marks: &[bool], from: usize) -> Result<Vec<bool>, AllocError> {
     let mut rest = Vec::new(alloc);
     for place in from..marks.len() {

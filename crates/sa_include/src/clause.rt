@@ -1,4 +1,4 @@
-//! The features that the include clauses of a class bring.
+//! The features that the include clauses of a class contribute.
 
 ghost use Rattle.std.specs.Prelude.{◌≡◌, IfOk, IfSome};
 ghost use Rattle.sa_include.specs.Included.{given_in};
@@ -7,23 +7,24 @@ ghost use Rattle.sa_include.specs.Refusals.{IsGathered, IsOfChange};
 use crate::renamings::{Renaming, access_after, name_after};
 use crate::resolved::{Flattened, IncludeProgram};
 use crate::substitute::{Included, Maker, RenamedFeature, TypeArguments};
-use sa_ast::{Class, Feature, Include, NoMemory, Refusal, Ty, held};
+use failure::{Failure, Invariant, known};
+use sa_ast::{Class, Feature, Include, Refusal, Ty};
 use sa_include_conflicts::{is_set, item};
 use std::alloc::Global;
 
-/// What the include clauses of a class bring, before anything is replaced.
+/// What the include clauses of a class contribute, before anything is replaced.
 #[derive(Drop)]
 pub(crate) struct CollectedFeatures {
     pub(crate) features: Vec<Feature>,
     /// For each of them whether its statements may write a parameter.
     pub(crate) open: Vec<bool>,
-    /// The place of the clause that brings each feature.
+    /// The index of the clause that includes each feature.
     pub(crate) clauses: Vec<usize>,
-    /// The refusal of the first change that is none of a feature that its clause brings.
+    /// The refusal of the first renaming that is none of a feature that its clause includes.
     pub(crate) refusal: Option<Refusal>,
 }
 
-/// The features that include clauses bring, one behind the other.
+/// The features that include clauses contribute, in order.
 #[derive(Drop)]
 struct IncludedFeatures {
     features: Vec<Feature>,
@@ -31,7 +32,7 @@ struct IncludedFeatures {
     clauses: Vec<usize>,
 }
 
-/// What the include clauses of a class bring.
+/// What the include clauses of a class contribute.
 #[tactic(auto, using(crate::proofs::Refusing::gathering))]
 pub(crate) fn collect_features<'a>(
     alloc: Global,
@@ -39,7 +40,7 @@ pub(crate) fn collect_features<'a>(
     resolved: &'a [Flattened],
     maker: &mut Maker<'_>,
     class: &Class,
-) -> Result<CollectedFeatures, NoMemory>
+) -> Result<CollectedFeatures, Failure>
     ensures { IfOk result (IsGathered class.now) }
 {
     let mut inherited = IncludedFeatures {
@@ -50,7 +51,10 @@ pub(crate) fn collect_features<'a>(
     let mut refusal = None;
     let same = Ty::Same(class.name.pos);
     for (place, include) in class.includes.as_slice().iter().enumerate() {
-        let included = held(program.includes.included(&include.ty))?;
+        let included = known(
+            program.includes.included(&include.ty),
+            Invariant::IncludeTable,
+        )?;
         let source = source_of(program, resolved, included)?;
         let wrong = bring_clause(alloc, &source, include, place, &same, maker, &mut inherited)?;
         refusal = refusal.or(wrong);
@@ -68,7 +72,7 @@ pub(crate) fn collect_features<'a>(
     })
 }
 
-/// Brings what an include clause brings of its class, and gives the refusal of its changes. `same` is the type of the
+/// Adds the features of an include clause's class, and gives the refusal of its renamings. `same` is the type of the
 /// including class.
 fn bring_clause(
     alloc: Global,
@@ -78,7 +82,7 @@ fn bring_clause(
     same: &Ty,
     maker: &mut Maker<'_>,
     inherited: &mut IncludedFeatures,
-) -> Result<Option<Refusal>, NoMemory>
+) -> Result<Option<Refusal>, Failure>
     ensures { IfOk result (λ refusal. IfSome refusal (IsOfChange include.now.changes)) }
 {
     let mut clause = Clause::new(alloc, source.class, include, place, same)?;
@@ -87,8 +91,8 @@ fn bring_clause(
 }
 
 impl IncludedFeatures {
-    /// Puts a feature that a clause brings behind the others.
-    fn add(&mut self, included: Included, clause: usize) -> Result<(), NoMemory> {
+    /// Adds a feature of a clause after the others.
+    fn add(&mut self, included: Included, clause: usize) -> Result<(), Failure> {
         let Included { feature, open } = included;
         self.features.push(feature)?;
         self.open.push(open)?;
@@ -97,7 +101,7 @@ impl IncludedFeatures {
     }
 }
 
-/// An included class, with what is known of it.
+/// An included class, with the facts of it.
 #[derive(Drop)]
 struct Source<'a> {
     class: &'a Class,
@@ -110,7 +114,7 @@ fn source_of<'a>(
     program: &IncludeProgram<'a>,
     resolved: &'a [Flattened],
     number: u32,
-) -> Result<Source<'a>, NoMemory> {
+) -> Result<Source<'a>, Failure> {
     let place = number as usize;
     Ok(Source {
         class: item(program.classes, place)?,
@@ -135,7 +139,7 @@ impl<'a> Clause<'a> {
         include: &'a Include,
         place: usize,
         same: &'a Ty,
-    ) -> Result<Clause<'a>, NoMemory> {
+    ) -> Result<Clause<'a>, Failure> {
         let given = given_in(&include.ty);
         let renaming = Renaming::new(alloc, include.changes.as_slice())?;
         let arguments = TypeArguments::new(alloc, class.params.as_slice(), given, same)?;
@@ -147,14 +151,14 @@ impl<'a> Clause<'a> {
         })
     }
 
-    /// Brings the features of the included class: those that its own includes bring, then those that it writes.
+    /// Adds the features of the included class: those that it includes itself, then those that it writes.
     fn bring(
         &mut self,
         alloc: Global,
         source: &Source<'_>,
         maker: &mut Maker<'_>,
         inherited: &mut IncludedFeatures,
-    ) -> Result<(), NoMemory> {
+    ) -> Result<(), Failure> {
         let flattened = source.flattened;
         for (place, feature) in flattened.inherited.as_slice().iter().enumerate() {
             let open = is_set(&flattened.open, place);
@@ -169,7 +173,7 @@ impl<'a> Clause<'a> {
         source: &Source<'_>,
         maker: &mut Maker<'_>,
         inherited: &mut IncludedFeatures,
-    ) -> Result<(), NoMemory> {
+    ) -> Result<(), Failure> {
         for (place, feature) in source.class.features.as_slice().iter().enumerate() {
             if is_set(&source.flattened.stays, place) {
                 let open = is_set(source.open, place);
@@ -179,7 +183,7 @@ impl<'a> Clause<'a> {
         Ok(())
     }
 
-    /// Brings a feature, unless a change leaves it out.
+    /// Adds a feature, unless a renaming leaves it out.
     fn bring_feature(
         &mut self,
         alloc: Global,
@@ -187,7 +191,7 @@ impl<'a> Clause<'a> {
         open: bool,
         maker: &mut Maker<'_>,
         inherited: &mut IncludedFeatures,
-    ) -> Result<(), NoMemory> {
+    ) -> Result<(), Failure> {
         let Some(renamed) = self.renamed(alloc, feature)? else {
             return Ok(());
         };
@@ -195,12 +199,12 @@ impl<'a> Clause<'a> {
         inherited.add(included, self.place)
     }
 
-    /// What a feature is called in the including class and who sees it there, or None where a change leaves it out.
+    /// What a feature is called in the including class and who sees it there, or None if a renaming leaves it out.
     fn renamed(
         &mut self,
         alloc: Global,
         feature: &Feature,
-    ) -> Result<Option<RenamedFeature>, NoMemory> {
+    ) -> Result<Option<RenamedFeature>, Failure> {
         let changes = self.include.changes.as_slice();
         let change = self.renaming.change_of(&feature.name.name, changes)?;
         let Some(name) = name_after(alloc, change, &feature.name.name)? else {

@@ -19,15 +19,16 @@ use crate::resolved::{Flattened, IncludeProgram};
 use crate::substitute::{Maker, is_open};
 use crate::weights::Weights;
 use crate::whole::whole_class;
-use sa_ast::{Class, Feature, FlatClass, NoMemory, Pos, Rejection, Ty, held};
+use failure::{Failure, Invariant, broken};
+use sa_ast::{Class, Feature, FlatClass, Pos, Rejection, Ty};
 use sa_include_conflicts::item;
 use sa_include_names::Includes;
-use sa_types::Substitution;
+use sa_subst::Substitution;
 use sqlite_items::Items;
 use std::alloc::Global;
 
-/// The classes with their features flattened: each class has the features that its includes bring, in the order of its
-/// include clauses, then those that it writes, and no include clauses. The classes begin with the prelude's, and stand in
+/// The classes with their features flattened: each class has the features that it includes, in the order of its
+/// include clauses, then those that it writes, and no include clauses. The classes begin with the prelude's, and are in
 /// the order of the files and of their texts.
 ///
 /// # Errors
@@ -55,7 +56,7 @@ pub fn flatten(alloc: Global, classes: &[Class]) -> Result<FlatClass, Rejection>
 ///
 /// # Errors
 ///
-/// The first refusal in text order.
+/// The first refusal in source order.
 #[tactic(auto, using(crate::proofs::Resolving::knows_includes))]
 fn resolved(
     alloc: Global,
@@ -81,12 +82,12 @@ fn resolved(
     resolve(alloc, &program, &mut maker)
 }
 
-/// Goes through the classes, each behind those that it includes.
+/// Resolves the classes, each after those that it includes.
 ///
 /// # Errors
 ///
-/// The first refusal in text order. A class may have one while a class before it isn't gone through yet; so a refusal is
-/// given as soon as all classes before it are, and the rest isn't gone through.
+/// The first refusal in source order. A class may have one while a class before it isn't resolved yet; so a refusal is
+/// given as soon as all classes before it are, and the rest isn't resolved.
 #[tactic(auto, using(crate::proofs::Resolving::resolving))]
 fn resolve(
     alloc: Global,
@@ -105,13 +106,13 @@ fn resolve(
         accepted = accepted_up_to(resolved.as_slice(), accepted, program.classes.len())?;
     }
     if accepted < program.classes.len() {
-        return Err(Rejection::NoMemory);
+        return Err(Rejection::Failed(Failure::Broken(Invariant::IncludeTable)));
     }
     Ok(resolved)
 }
 
 #[tactic(auto, using(crate::proofs::Resolving::undone))]
-fn unresolved(alloc: Global, classes: usize) -> Result<Vec<Flattened>, NoMemory>
+fn unresolved(alloc: Global, classes: usize) -> Result<Vec<Flattened>, Failure>
     ensures { IfOk result (λ list. AreUndone list.items) }
 {
     let mut list = Vec::new(alloc);
@@ -121,19 +122,19 @@ fn unresolved(alloc: Global, classes: usize) -> Result<Vec<Flattened>, NoMemory>
     Ok(list)
 }
 
-/// Puts a class at its place, which is there.
-fn keep(resolved: &mut Vec<Flattened>, at: usize, flattened: Flattened) -> Result<(), NoMemory>
+/// Puts a class at its index, which is there.
+fn keep(resolved: &mut Vec<Flattened>, at: usize, flattened: Flattened) -> Result<(), Failure>
     ensures { OnOk result (resolved.new.items ≡ slice_set resolved.old.items at flattened) }
 {
     if at >= resolved.len() {
-        return Err(NoMemory);
+        return broken(Invariant::IncludeTable);
     }
     resolved.as_mut_slice()[at] = flattened;
     Ok(())
 }
 
 /// The parameters of all classes.
-fn all_params(alloc: Global, classes: &[Class]) -> Result<Weights, NoMemory> {
+fn all_params(alloc: Global, classes: &[Class]) -> Result<Weights, Failure> {
     let mut params = Weights::new(alloc);
     for class in classes {
         params.add_all(alloc, class.params.as_slice())?;
@@ -146,7 +147,7 @@ fn open_in_all(
     alloc: Global,
     classes: &[Class],
     params: &Weights,
-) -> Result<Vec<Vec<bool>>, NoMemory> {
+) -> Result<Vec<Vec<bool>>, Failure> {
     let mut all = Vec::new(alloc);
     for class in classes {
         all.push(open_in(alloc, class.features.as_slice(), params)?)?;
@@ -154,7 +155,7 @@ fn open_in_all(
     Ok(all)
 }
 
-fn open_in(alloc: Global, features: &[Feature], params: &Weights) -> Result<Vec<bool>, NoMemory> {
+fn open_in(alloc: Global, features: &[Feature], params: &Weights) -> Result<Vec<bool>, Failure> {
     let mut open = Vec::new(alloc);
     for feature in features {
         open.push(is_open(feature, params))?;
@@ -162,7 +163,7 @@ fn open_in(alloc: Global, features: &[Feature], params: &Weights) -> Result<Vec<
     Ok(open)
 }
 
-/// The number of the first class from this one on that isn't gone through, or how many classes there are. The first class
+/// The number of the first class from this one on that isn't resolved, or how many classes there are. The first class
 /// before it that has a refusal is refused.
 #[tactic(auto, using(crate::proofs::Resolving::accepting))]
 fn accepted_up_to(resolved: &[Flattened], from: usize, classes: usize) -> Result<usize, Rejection>
@@ -182,13 +183,13 @@ fn accepted_up_to(resolved: &[Flattened], from: usize, classes: usize) -> Result
     Ok(classes)
 }
 
-/// The classes without includes, each with the features that its includes bring and those of its own that stay.
+/// The classes without includes, each with the features that it includes and those of its own that stay.
 #[tactic(auto, using(crate::proofs::Nothing::puts_nothing))]
 fn whole_classes(
     alloc: Global,
     classes: &[Class],
     resolved: Vec<Flattened>,
-) -> Result<Items<Class>, NoMemory>
+) -> Result<Items<Class>, Failure>
     ensures { IfOk result (λ whole. AreFlattened classes.now whole) }
 {
     let mut last_first = resolved;
@@ -198,7 +199,7 @@ fn whole_classes(
     let mut whole = Items::new(alloc);
     for class in classes {
         let Some(flattened) = last_first.pop() else {
-            return Err(NoMemory);
+            return broken(Invariant::IncludeTable);
         };
         whole.push(whole_class(alloc, class, flattened, &nothing)?)?;
     }

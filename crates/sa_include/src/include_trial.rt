@@ -1,5 +1,5 @@
-//! No two features of a class conflict, and each class has what its include clauses bring: both are tried when all classes are
-//! made.
+//! No two features of a class conflict, and each class has what its include clauses contribute: both are checked at run time, when all
+//! classes are made.
 
 ghost use Rattle.std.specs.Prelude.{◌≡◌, OnOk};
 ghost use Rattle.std.specs.List.{All};
@@ -8,30 +8,31 @@ ghost use Rattle.sa_include.specs.Flattened.{IsApart, is_immutable};
 ghost use Rattle.sa_include.specs.Included.{AreIncluded, BringsAll, IsInherited};
 ghost use Rattle.sa_include_conflicts.specs.IncludedFeatures.{HasSignatures};
 ghost use Rattle.sa_include_names.specs.Tables.{HasNumbers, number_in};
-ghost use Rattle.sa_types.specs.Table.{put_in};
+ghost use Rattle.sa_subst.specs.Table.{put_in};
 
 use crate::clause::given_in;
 use crate::renamings::Renaming;
 use crate::whole::is_immutable;
-use sa_ast::{Class, Feature, FeatureModifier, Include, NoMemory, Ty};
+use failure::{Failure, Invariant, broken};
+use sa_ast::{Class, Feature, FeatureModifier, Include, Ty};
 use sa_include_conflicts::{KnownSignatures, item, try_apart};
 use sa_include_names::Includes;
-use sa_types::Substitution;
+use sa_subst::Substitution;
 use std::alloc::Global;
 
-/// Tries that no two features of a class conflict, and that each class has, of each feature of a class that it includes, the one
+/// Checks that no two features of a class conflict, and that each class has, of each feature of a class that it includes, the one
 /// that its clause makes of it, or one that conflicts with that. `whole` are the classes without their includes.
 ///
 /// # Errors
 ///
-/// `NoMemory`, also where it isn't so.
+/// A `Failure`: `Broken` where it isn't so.
 #[tactic(auto, using(crate::proofs::Bringing::all_classes))]
 pub(crate) fn try_whole(
     alloc: Global,
     classes: &[Class],
     whole: &[Class],
     includes: &Includes,
-) -> Result<(), NoMemory>
+) -> Result<(), Failure>
     requires { HasNumbers classes.now includes.now.numbers }
     ensures apart { OnOk result (All IsApart whole.now) }
     ensures included { OnOk result (AreIncluded classes.now whole.now) }
@@ -51,7 +52,7 @@ fn try_class(
     made: &Class,
     whole: &[Class],
     includes: &Includes,
-) -> Result<(), NoMemory>
+) -> Result<(), Failure>
     ensures apart { OnOk result (IsApart made.now) }
     ensures included { OnOk result (All (BringsAll (number_in includes.now.numbers) whole.now made.now) clauses.now) }
 {
@@ -62,7 +63,7 @@ fn try_class(
     Ok(())
 }
 
-/// What an include clause makes of the features that it brings.
+/// What an include clause makes of the features that it includes.
 #[derive(Drop)]
 struct IncludeStep<'a> {
     changes: &'a [FeatureModifier],
@@ -72,7 +73,7 @@ struct IncludeStep<'a> {
     immutable: bool,
 }
 
-/// Tries what one of them brings. The features of the class have these signatures.
+/// Checks what one of them includes. The features of the class have these signatures.
 #[tactic(auto, using(crate::proofs::Bringing::clause_brings))]
 fn try_clause(
     alloc: Global,
@@ -81,12 +82,12 @@ fn try_clause(
     known: &KnownSignatures,
     whole: &[Class],
     includes: &Includes,
-) -> Result<(), NoMemory>
+) -> Result<(), Failure>
     requires { HasSignatures (is_immutable made.now.kind) made.now.features known.now }
     ensures { OnOk result (BringsAll (number_in includes.now.numbers) whole.now made.now clause.now) }
 {
     let Some(number) = includes.included(&clause.ty) else {
-        return Err(NoMemory);
+        return broken(Invariant::IncludeTable);
     };
     let included = item(whole, number as usize)?;
     let changes = clause.changes.as_slice();
@@ -107,13 +108,13 @@ fn try_clause(
     Ok(())
 }
 
-/// Tries of each of these features that it is brought.
+/// Checks of each of these features that it is included.
 fn try_features(
     alloc: Global,
     features: &[Feature],
     bringing: &IncludeStep<'_>,
     known: &KnownSignatures,
-) -> Result<(), NoMemory>
+) -> Result<(), Failure>
     requires { HasChanges bringing.now.changes.now bringing.now.renaming }
     ensures { OnOk result (All
         (IsInherited bringing.now.changes.now (put_in bringing.now.by) bringing.now.immutable known.now.shapes.keys)
@@ -131,7 +132,7 @@ fn try_feature(
     feature: &Feature,
     bringing: &IncludeStep<'_>,
     known: &KnownSignatures,
-) -> Result<(), NoMemory>
+) -> Result<(), Failure>
     requires { HasChanges bringing.now.changes.now bringing.now.renaming }
     ensures { OnOk result (IsInherited bringing.now.changes.now (put_in bringing.now.by) bringing.now.immutable
         known.now.shapes.keys feature.now) }
@@ -145,5 +146,5 @@ fn try_feature(
     if known.has_included(alloc, feature, bringing.immutable, name, &bringing.by)? {
         return Ok(());
     }
-    Err(NoMemory)
+    broken(Invariant::RuleDenied)
 }

@@ -1,5 +1,5 @@
-//! The changes of an include clause: what an included feature is called, and who sees it. A change is of a feature that the
-//! clause brings, and its two names are both those of iters or neither is (else E16).
+//! The renamings of an include clause: what an included feature is called, and who sees it. A renaming is of a feature that the
+//! clause includes, and its two names are both those of iters or neither is (else E16).
 
 ghost use Rattle.std.specs.Prelude.{◌≡◌, IfOk, IfSome, OnOk};
 ghost use Rattle.std.specs.Option.{option_copied};
@@ -7,25 +7,26 @@ ghost use Rattle.sa_include.specs.Changes.{AddsChange, HasChanges};
 ghost use Rattle.sa_include.specs.Included.{included_name};
 ghost use Rattle.sa_include.specs.Refusals.{IsOfChange};
 
+use failure::{Failure, Invariant};
 use indexmap::IndexMap;
-use sa_ast::{Access, FeatureModifier, Include, Name, NoMemory, Refusal, Rule};
+use sa_ast::{Access, FeatureModifier, Include, Name, Refusal, Rule};
 use sa_graph::put;
 use sa_include_conflicts::is_set;
 use sqlite_items::at;
 use std::alloc::{AllocError, Global};
 
-/// The changes of an include clause, found by the names that they change.
+/// The renamings of an include clause, found by the names that they change.
 #[derive(Drop)]
 pub(crate) struct Renaming {
-    /// The place of the first change of each name, which is the one that counts.
+    /// The index of the first renaming of each name, which is the one that counts.
     first: IndexMap<Name, usize>,
-    /// For each change whether the clause brings a feature of its name. It is kept at the first change of a name.
+    /// For each renaming whether the clause includes a feature of its name. It is kept at the first renaming of a name.
     met: Vec<bool>,
 }
 
 impl Renaming {
-    #[tactic(auto, using(crate::proofs::Renamings::changes_added))]
-    pub(crate) fn new(alloc: Global, changes: &[FeatureModifier]) -> Result<Renaming, NoMemory>
+    #[tactic(auto, using(crate::proofs::RenamingLemmas::changes_added))]
+    pub(crate) fn new(alloc: Global, changes: &[FeatureModifier]) -> Result<Renaming, Failure>
         ensures { IfOk result (HasChanges changes.now) }
     {
         let mut renaming = Renaming {
@@ -38,8 +39,8 @@ impl Renaming {
         Ok(renaming)
     }
 
-    #[tactic(auto, using(crate::proofs::Renamings::one_added))]
-    fn add(&mut self, alloc: Global, name: &Name, place: usize) -> Result<(), NoMemory>
+    #[tactic(auto, using(crate::proofs::RenamingLemmas::one_added))]
+    fn add(&mut self, alloc: Global, name: &Name, place: usize) -> Result<(), Failure>
         ensures { OnOk result (AddsChange name.now place self.old self.new) }
     {
         match self.first.get(name).copied() {
@@ -51,8 +52,8 @@ impl Renaming {
         }
     }
 
-    /// What a feature is called that the clause brings, or None where a change leaves it out.
-    #[tactic(auto, using(crate::proofs::Renamings::names))]
+    /// What a feature is called that the clause includes, or None if a renaming leaves it out.
+    #[tactic(auto, using(crate::proofs::RenamingLemmas::names))]
     pub(crate) fn name_of<'a>(
         &self,
         name: &'a Name,
@@ -73,20 +74,20 @@ impl Renaming {
         }
     }
 
-    /// The change of the features of this name that the clause brings.
+    /// The renaming of the features of this name that the clause includes.
     pub(crate) fn change_of<'a>(
         &mut self,
         name: &Name,
         changes: &'a [FeatureModifier],
-    ) -> Result<Option<&'a FeatureModifier>, NoMemory> {
+    ) -> Result<Option<&'a FeatureModifier>, Failure> {
         let Some(place) = self.first.get(name).copied() else {
             return Ok(None);
         };
-        put(&mut self.met, place, true)?;
+        put(&mut self.met, place, true, Invariant::IncludeTable)?;
         Ok(changes.get(place))
     }
 
-    /// The refusal of the first change, in text order, that isn't one of a feature that the clause brings.
+    /// The refusal of the first renaming, in source order, that isn't one of a feature that the clause includes.
     #[tactic(auto, using(crate::proofs::Refusing::of_this_change))]
     pub(crate) fn refused(&self, changes: &[FeatureModifier]) -> Option<Refusal>
         ensures { IfSome result (IsOfChange changes.now) }
@@ -107,7 +108,7 @@ impl Renaming {
     }
 }
 
-/// Whether the two names of a change are both those of iters, or neither is.
+/// Whether the two names of a renaming are both those of iters, or neither is.
 fn keeps_the_kind(change: &FeatureModifier) -> bool {
     match &change.to {
         Some(to) => is_iter(to) == is_iter(&change.from.name),
@@ -119,8 +120,8 @@ fn is_iter(name: &Name) -> bool {
     name.as_slice().last().copied() == Some(b'!')
 }
 
-/// Who sees an included feature. A change that names no access leaves it as it was, and a private clause makes private what
-/// no change of its own names.
+/// Who sees an included feature. A renaming that names no access leaves it as it was, and a private clause makes private what
+/// no renaming of its own names.
 pub(crate) fn access_after(
     include: &Include,
     change: Option<&FeatureModifier>,
@@ -144,7 +145,7 @@ pub(crate) fn access_after(
     }
 }
 
-/// The name of an included feature, or None where a change leaves it out.
+/// The name of an included feature, or None if a renaming leaves it out.
 pub(crate) fn name_after(
     alloc: Global,
     change: Option<&FeatureModifier>,

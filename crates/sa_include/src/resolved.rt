@@ -1,4 +1,4 @@
-//! The classes of a program while their includes are gone through.
+//! The classes of a program while their includes are resolved.
 
 ghost use Rattle.std.specs.Prelude.{◌≡◌, false};
 
@@ -10,7 +10,7 @@ use std::alloc::Global;
 /// A class whose includes are resolved, without the features that it writes itself.
 #[derive(Drop)]
 pub(crate) struct Flattened {
-    /// The features that its includes bring and that stay.
+    /// The features that it includes and that stay.
     pub(crate) inherited: Items<Feature>,
     /// For each of them whether its statements may write a parameter.
     pub(crate) open: Vec<bool>,
@@ -18,12 +18,12 @@ pub(crate) struct Flattened {
     pub(crate) stays: Vec<bool>,
     /// The first refusal of the class.
     pub(crate) refusal: Option<Refusal>,
-    /// Whether the class was gone through.
+    /// Whether the class was resolved.
     pub(crate) done: bool,
 }
 
 impl Flattened {
-    /// What stands for a class until it is gone through.
+    /// The placeholder of a class until it is resolved.
     pub(crate) fn none(alloc: Global) -> Flattened
         ensures { result.done ≡ false }
     {
@@ -37,7 +37,7 @@ impl Flattened {
     }
 }
 
-/// What the features of classes are found in.
+/// The tables in which the features of classes are found.
 #[derive(Drop)]
 pub(crate) struct IncludeProgram<'a> {
     pub(crate) classes: &'a [Class],

@@ -1,6 +1,6 @@
-//! How many forms a tree has: its statements, expressions, declared locals and types, each with those inside it, and one
-//! more for each 16 bytes of a name or a text. A type that is a parameter counts as many as the type that is put in its
-//! place.
+//! How many AST nodes a tree has: its statements, expressions, declared locals and types, each with those inside it, and one
+//! more for each 16 bytes of a name or a text. A type that is a parameter counts as many as the type that is substituted for
+//! it.
 
 use crate::weights::{Size, Weights, size_of_bytes};
 use sa_ast::{

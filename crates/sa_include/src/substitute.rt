@@ -1,9 +1,9 @@
-//! What an included feature is in the including class: types with the given ones in place of the included class's parameters,
+//! What an included feature is in the including class: types with the given ones substituted for the included class's parameters,
 //! and statements that are shared where nothing in them changes.
 
 ghost use Rattle.std.specs.Prelude.{◌≡◌, IfOk};
 ghost use Rattle.std.specs.Option.{option_map};
-ghost use Rattle.sa_types.specs.Table.{put_in};
+ghost use Rattle.sa_subst.specs.Table.{put_in};
 ghost use Rattle.sa_subst.specs.Trees.{expr_with};
 ghost use Rattle.sa_include.specs.Parts.{part_with};
 
@@ -12,16 +12,15 @@ use crate::size::{
     size_of_formals, size_of_optional_type, size_of_stmts, size_of_type, size_of_value,
 };
 use crate::weights::{Weights, size_of_bytes};
+use failure::Failure;
 use sa_ast::{
-    Access, Body, Expr, Feature, FeatureBody, FormalParam, Local, Name, NoMemory, Shared, Ty,
-    TypeParam,
+    Access, Body, Expr, Feature, FeatureBody, FormalParam, Local, Name, Shared, Ty, TypeParam,
 };
-use sa_subst::{subst_expr, subst_stmts};
-use sa_types::{Substitution, subst_with};
+use sa_subst::{Substitution, subst_expr, subst_stmts, subst_with};
 use sqlite_items::Items;
 use std::alloc::Global;
 
-/// What an include clause puts in place of the parameters of the class that it includes.
+/// What an include clause substitutes for the parameters of the class that it includes.
 #[derive(Drop)]
 pub(crate) struct TypeArguments<'a> {
     by: Substitution<'a>,
@@ -31,14 +30,14 @@ pub(crate) struct TypeArguments<'a> {
 }
 
 impl<'a> TypeArguments<'a> {
-    /// The given types in place of the parameters in order. A parameter without one stays, and one without a parameter is
+    /// The given types for the parameters in order. A parameter without one stays, and one without a parameter is
     /// dropped. SAME stays as it is, and means the including class then.
     pub(crate) fn new(
         alloc: Global,
         params: &[TypeParam],
         given: &'a [Ty],
         same: &'a Ty,
-    ) -> Result<TypeArguments<'a>, NoMemory> {
+    ) -> Result<TypeArguments<'a>, Failure> {
         let weights = weights_of(alloc, params, given)?;
         let by = Substitution::make(alloc, params, given, same)?;
         Ok(TypeArguments {
@@ -49,8 +48,8 @@ impl<'a> TypeArguments<'a> {
     }
 }
 
-/// How many forms stand for each parameter with a given type: those of that type.
-fn weights_of(alloc: Global, params: &[TypeParam], given: &[Ty]) -> Result<Weights, NoMemory> {
+/// How many AST nodes count for each parameter with a given type: those of that type.
+fn weights_of(alloc: Global, params: &[TypeParam], given: &[Ty]) -> Result<Weights, Failure> {
     let none = Weights::new(alloc);
     let mut weights = Weights::new(alloc);
     for (place, param) in params.iter().enumerate() {
@@ -91,7 +90,7 @@ pub(crate) fn is_open(feature: &Feature, params: &Weights) -> bool {
     }
 }
 
-/// The forms of an included feature without its statements, with its name in the including class.
+/// The AST nodes of an included feature without its statements, with its name in the including class.
 fn forms_of_head(feature: &Feature, name: &Name, weights: &Weights) -> u64 {
     let formals = size_of_formals(feature.formals.as_slice(), weights);
     let result = size_of_optional_type(&feature.result, weights);
@@ -130,7 +129,7 @@ pub(crate) struct Maker<'a> {
 }
 
 impl<'a> Maker<'a> {
-    /// A feature in the including class. `open` tells whether its statements may write a parameter of some class.
+    /// A feature in the including class. `open` is whether its statements may write a parameter of some class.
     ///
     /// # Errors
     ///
@@ -142,7 +141,7 @@ impl<'a> Maker<'a> {
         open: bool,
         renamed: RenamedFeature,
         arguments: &TypeArguments<'_>,
-    ) -> Result<Included, NoMemory> {
+    ) -> Result<Included, Failure> {
         self.budget
             .take(forms_of_head(feature, &renamed.name, &arguments.weights))?;
         let IncludedPart { part, open } = self.part(alloc, &feature.part, open, arguments)?;
@@ -150,7 +149,7 @@ impl<'a> Maker<'a> {
         Ok(Included { feature, open })
     }
 
-    /// The part of an included feature. The statements of a routine or an iter are copied only where a type in them
+    /// The part of an included feature. The statements of a routine or an iter are copied only if a type in them
     /// changes.
     fn part(
         &mut self,
@@ -158,7 +157,7 @@ impl<'a> Maker<'a> {
         part: &FeatureBody,
         open: bool,
         arguments: &TypeArguments<'_>,
-    ) -> Result<IncludedPart, NoMemory> {
+    ) -> Result<IncludedPart, Failure> {
         if open && arguments.changes {
             if let FeatureBody::Routine(body) = part {
                 return self.routine(alloc, body, arguments);
@@ -174,7 +173,7 @@ impl<'a> Maker<'a> {
         alloc: Global,
         body: &Body,
         arguments: &TypeArguments<'_>,
-    ) -> Result<IncludedPart, NoMemory> {
+    ) -> Result<IncludedPart, Failure> {
         let list = body.get().as_slice();
         let size = size_of_stmts(list, &arguments.weights);
         if !size.has_params {
@@ -189,14 +188,14 @@ impl<'a> Maker<'a> {
     }
 }
 
-/// A feature with types put in, of this name and access and with this part.
+/// A feature with types substituted, of this name and access and with this part.
 fn with_part(
     alloc: Global,
     feature: &Feature,
     renamed: RenamedFeature,
     part: FeatureBody,
     by: &Substitution<'_>,
-) -> Result<Feature, NoMemory> {
+) -> Result<Feature, Failure> {
     let formals = subst_formals(alloc, feature.formals.as_slice(), by)?;
     let result = subst_optional_type(alloc, &feature.result, by)?;
     let RenamedFeature { name, access } = renamed;
@@ -212,12 +211,12 @@ fn with_part(
     })
 }
 
-/// A part of a feature with types put in. Statements are shared, as they are.
+/// A part of a feature with types substituted. Statements are shared, as they are.
 pub(crate) fn subst_part(
     alloc: Global,
     part: &FeatureBody,
     by: &Substitution<'_>,
-) -> Result<FeatureBody, NoMemory>
+) -> Result<FeatureBody, Failure>
     ensures { IfOk result (λ copy. copy ≡ part_with (put_in by.now) part.now) }
 {
     match part {
@@ -241,7 +240,7 @@ fn subst_optional_expr(
     alloc: Global,
     e: &Option<Expr>,
     by: &Substitution<'_>,
-) -> Result<Option<Expr>, NoMemory>
+) -> Result<Option<Expr>, Failure>
     ensures { IfOk result (λ copy. copy ≡ option_map (expr_with (put_in by.now)) e.now) }
 {
     match e {
@@ -250,12 +249,12 @@ fn subst_optional_expr(
     }
 }
 
-/// The arguments of a feature with types put in.
+/// The arguments of a feature with types substituted.
 fn subst_formals(
     alloc: Global,
     formals: &[FormalParam],
     by: &Substitution<'_>,
-) -> Result<Items<FormalParam>, NoMemory> {
+) -> Result<Items<FormalParam>, Failure> {
     let mut copies = Items::new(alloc);
     for formal in formals {
         copies.push(subst_formal(alloc, formal, by)?)?;
@@ -267,7 +266,7 @@ fn subst_formal(
     alloc: Global,
     formal: &FormalParam,
     by: &Substitution<'_>,
-) -> Result<FormalParam, NoMemory> {
+) -> Result<FormalParam, Failure> {
     let name = formal.local.name.copy(alloc)?;
     let ty = subst_with(alloc, &formal.ty, by)?;
     Ok(FormalParam {
@@ -280,12 +279,12 @@ fn subst_formal(
     })
 }
 
-/// A type that may be missing with types put in.
+/// A type that may be missing with types substituted.
 fn subst_optional_type(
     alloc: Global,
     ty: &Option<Ty>,
     by: &Substitution<'_>,
-) -> Result<Option<Ty>, NoMemory> {
+) -> Result<Option<Ty>, Failure> {
     match ty {
         None => Ok(None),
         Some(ty) => Ok(Some(subst_with(alloc, ty, by)?)),

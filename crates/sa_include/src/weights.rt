@@ -1,10 +1,11 @@
-//! How many forms there are, and how many stand for each parameter.
+//! How many AST nodes there are, and how many count for each parameter.
 
+use failure::Failure;
 use indexmap::IndexMap;
-use sa_ast::{Name, NoMemory, TypeParam};
+use sa_ast::{Name, TypeParam};
 use std::alloc::Global;
 
-/// How many forms a tree has, and whether it writes one of the parameters that were looked for.
+/// How many AST nodes a tree has, and whether it writes one of the parameters in question.
 #[derive(Clone, Copy)]
 pub(crate) struct Size {
     pub(crate) forms: u64,
@@ -31,7 +32,7 @@ impl Size {
     }
 }
 
-/// What the bytes of a name or a text count besides the form that it belongs to.
+/// What the bytes of a name or a text count besides the AST node that it belongs to.
 pub(crate) fn size_of_bytes(name: &Name) -> Size {
     Size {
         forms: (name.as_slice().len() / 16) as u64,
@@ -39,7 +40,7 @@ pub(crate) fn size_of_bytes(name: &Name) -> Size {
     }
 }
 
-/// Names of parameters, and how many forms stand for each.
+/// Names of parameters, and how many AST nodes count for each.
 #[derive(Drop)]
 pub(crate) struct Weights {
     by_name: IndexMap<Name, u64>,
@@ -52,13 +53,13 @@ impl Weights {
         }
     }
 
-    /// Gives a parameter its forms where it has none yet: the first of two parameters with one name counts.
+    /// Gives a parameter its AST nodes if it has none yet: the first of two parameters with one name counts.
     pub(crate) fn add(
         &mut self,
         alloc: Global,
         param: &TypeParam,
         forms: u64,
-    ) -> Result<(), NoMemory> {
+    ) -> Result<(), Failure> {
         let name = &param.name.name;
         if self.by_name.get(name).is_some() {
             return Ok(());
@@ -67,8 +68,8 @@ impl Weights {
         Ok(())
     }
 
-    /// Gives each of these parameters one form where it has none yet.
-    pub(crate) fn add_all(&mut self, alloc: Global, params: &[TypeParam]) -> Result<(), NoMemory> {
+    /// Gives each of these parameters one AST node if it has none yet.
+    pub(crate) fn add_all(&mut self, alloc: Global, params: &[TypeParam]) -> Result<(), Failure> {
         for param in params {
             self.add(alloc, param, 1)?;
         }

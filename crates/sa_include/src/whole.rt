@@ -1,4 +1,4 @@
-//! A class without its includes: its header, the features that its includes bring, and those that it writes itself, but for
+//! A class without its includes: its header, the features that it includes, and those that it writes itself, but for
 //! its stubs that are replaced.
 
 ghost use Rattle.std.specs.Prelude.{◌≡◌, IfOk, IsTrue, OnOk, false};
@@ -9,19 +9,20 @@ ghost use Rattle.sa_include.specs.Parts.{PutsNothing};
 
 use crate::resolved::Flattened;
 use crate::substitute::subst_part;
-use sa_ast::{Class, ClassKind, Feature, FormalParam, Local, NoMemory, Ty, TypeParam};
+use failure::{Failure, Invariant, broken};
+use sa_ast::{Class, ClassKind, Feature, FormalParam, Local, Ty, TypeParam};
 use sa_include_conflicts::{is_set, is_stub, keeps_stub};
-use sa_types::Substitution;
+use sa_subst::Substitution;
 use sqlite_items::Items;
 use std::alloc::{AllocError, Global};
 
-/// A class without its includes. The substitution puts nothing in place of anything.
+/// A class without its includes. The substitution substitutes nothing for anything.
 pub(crate) fn whole_class(
     alloc: Global,
     class: &Class,
     flattened: Flattened,
     nothing: &Substitution<'_>,
-) -> Result<Class, NoMemory>
+) -> Result<Class, Failure>
     requires { PutsNothing nothing.now }
     ensures { IfOk result (λ flat. IsFlattened class.now flat) }
 {
@@ -44,12 +45,12 @@ pub(crate) fn whole_class(
     })
 }
 
-/// Tries that a class of this kind has no stub, unless it is partial. A class that has one has been refused.
-fn try_stubs(kind: ClassKind, features: &[Feature]) -> Result<(), NoMemory>
+/// Checks that a class of this kind has no stub, unless it is partial. A class that has one has been refused.
+fn try_stubs(kind: ClassKind, features: &[Feature]) -> Result<(), Failure>
     ensures { OnOk result (keeps_stub kind features.now ≡ false) }
 {
     if keeps_stub(kind, features) {
-        return Err(NoMemory);
+        return broken(Invariant::RuleDenied);
     }
     Ok(())
 }
@@ -65,14 +66,14 @@ pub(crate) fn is_immutable(kind: ClassKind) -> bool
     }
 }
 
-/// The features that the includes of a class bring, and behind them those that it writes, but for its stubs that don't stay.
+/// The features that a class includes, and after them those that it writes, but for its stubs that don't stay.
 fn with_written(
     alloc: Global,
     inherited: Items<Feature>,
     written: &[Feature],
     stays: &[bool],
     nothing: &Substitution<'_>,
-) -> Result<Items<Feature>, NoMemory>
+) -> Result<Items<Feature>, Failure>
     requires { PutsNothing nothing.now }
     ensures { IfOk result (λ features. All (Wins features) written.now) }
 {
@@ -93,13 +94,13 @@ fn is_replaced_stub(feature: &Feature, stays: bool) -> bool
     is_stub(feature) && !stays
 }
 
-/// A feature once more. Its statements are shared.
+/// A copy of a feature. Its statements are shared.
 #[tactic(auto, using(crate::proofs::Nothing::part_nothing))]
 fn copy_feature(
     alloc: Global,
     feature: &Feature,
     nothing: &Substitution<'_>,
-) -> Result<Feature, NoMemory>
+) -> Result<Feature, Failure>
     requires { PutsNothing nothing.now }
     ensures { IfOk result (λ copy. copy ≡ feature.now) }
 {

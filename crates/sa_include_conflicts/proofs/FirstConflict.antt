@@ -8,7 +8,7 @@ use Rattle.sa_include_conflicts.specs.Sharing.{AddsGroups, HasGroup, IsFirstConf
 use Rattle.sa_include_conflicts.proofs.Marking.{marked_one, unmarked}
 
 module _ (conflicts : Conflicts) (stays : List Bool) (from : ℕ) where
-  -- a group is one of those of a feature that stays at a place before this one
+  -- a group is one of those of a feature that stays at an index before this one
   pub record IsTaken (place group : ℕ) : Type 0 where
     pub earlier : ℕ
     pub after : from ≤ earlier

@@ -11,7 +11,7 @@ use Rattle.std.specs.List.{AllZip, list_any, position_or_len}
 use Rattle.std.specs.Option.{option_map, option_map_or}
 use Rattle.indexmap.specs.IndexSet.{insert_key}
 use Rattle.sa_ast.specs.declared.class.Feature.{Feature}
-use Rattle.sa_types.specs.declared.sig.Sig.{Sig}
+use Rattle.sa_subst.specs.declared.sig.Sig.{Sig}
 use Rattle.sa_overload.specs.Conflict.{do_conflict}
 use Rattle.sa_include_conflicts.specs.declared.conflicts.Conflicts.{Conflicts}
 use Rattle.sa_include_conflicts.specs.declared.conflicts.Grouping.{Grouping}
@@ -209,7 +209,7 @@ module _ {A B : Type 0} where
       one_b e = cc
   zip_at R (a ∷ xs) (b ∷ ys) (suc i) x y h p q = zip_at R xs ys i x y h.1 p q
 
--- the features up to a place have these groups
+-- the features up to an index have these groups
 pub record GroupedUpTo (features : ClassFeatures) (place : ℕ) (grouping : Grouping) (of : List Groups) : Type 0 where
   pub groups : AllZip (IsGrouped features.immutable grouping.known.keys) (take place (all_features features)) of
   pub immutable : grouping.immutable ≡ features.immutable

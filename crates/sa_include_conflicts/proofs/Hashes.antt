@@ -1,4 +1,4 @@
--- What is hashed of the arguments of a signature, from a place on.
+-- What is hashed of the arguments of a signature, from an index on.
 use Rattle.std.proofs.Common.{◌≡◌, ℕ, ◌+◌, ◌<◌, List, length, get_or, drop, ◌++◌, add-one, drop-cons}
 use Rattle.std.proofs.lemmas.Grind.{fold-append}
 use Rattle.std.proofs.lemmas.List.{drop_all}

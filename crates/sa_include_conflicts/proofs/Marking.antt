@@ -68,7 +68,7 @@ pub unmarked : (groups : Groups) (marks : Visited) → has_marked groups marks �
 unmarked groups marks h n (inl q) = ap (is_marked marks) (sym q) ∙ (or_false (is_marked marks groups.own) (option_map_or (is_marked marks) groups.writer false) h).0
 unmarked groups marks h n (inr q) = ap (λ o. option_map_or (is_marked marks) o false) (sym q) ∙ (or_false (is_marked marks groups.own) (option_map_or (is_marked marks) groups.writer false) h).1
 
--- ---- groups that are marked where a test holds
+-- ---- groups that are marked if a test is true
 
 module _ (holds : Bool) (groups : Groups) (old new : Visited) where
   pub marks_added : holds ≡ true → AddsGroups groups old new → AddsWhere holds groups old new

@@ -1,4 +1,4 @@
--- The element at a place of two lists that are joined.
+-- The element at an index of two lists that are joined.
 use Rattle.std.proofs.Common.{◌≡◌, ℕ, zero, suc, ◌+◌, ◌-◌, ◌<◌, ◌≤◌, List, [], ◌∷◌, ◌++◌, Some, length, slice_get, sym, ap, ◌∙◌, arith}
 
 module _ {A : Type 0} where

@@ -63,7 +63,7 @@ module _ (features : ClassFeatures) (conflicts : Conflicts) where
               absurd (false≢true (sym (unmarked n new x c.0 c.2) ∙ (adds.exactly c.0).1 (inr c.1)))
           by false false false x y z = refl
 
-  -- those up to a place of a list that pass a test
+  -- those up to an index of a list that pass a test
   pub marked_more : (test : Feature → Bool) (xs : List Feature) (i place : ℕ) (f : Feature) (groups : Groups) (holds : Bool) (old new : Visited) → AreGrouped features conflicts → i < length xs → f ≡ get_or xs i f → slice_get all place ≡ Some f → groups_at conflicts place ≡ Some groups → holds ≡ test f → AreMarked features conflicts (filter test (take i xs)) old → AddsWhere holds groups old new → AreMarked features conflicts (filter test (take (i + 1) xs)) new
   marked_more test xs i place f groups holds old new grouped lt is at groups_are tested before adds =
       subst (λ ms. AreMarked features conflicts ms new) (sym next) (by holds refl)
@@ -83,7 +83,7 @@ module _ (features : ClassFeatures) (conflicts : Conflicts) where
   pub marked_all : (test : Feature → Bool) (xs : List Feature) (i : ℕ) (marks : Visited) → length xs ≤ i → AreMarked features conflicts (filter test (take i xs)) marks → AreMarked features conflicts (filter test xs) marks
   marked_all test xs i marks le upto = subst (λ ys. AreMarked features conflicts (filter test ys) marks) (take_all i xs le) upto
 
-  -- ---- the places of brought and of written features
+  -- ---- the indices of included and of written features
 
   pub brought_at : (i : ℕ) (f : Feature) → i < length features.inherited.now → f ≡ get_or features.inherited.now i f → slice_get all i ≡ Some f
   brought_at i f lt is = first_part features.inherited.now features.written.now i f (slice_get_read features.inherited.now (length features.inherited.now) i f refl lt is)

@@ -8,7 +8,7 @@ use Rattle.std.specs.List.{AllByRecursion, AllPairs, list_any}
 use Rattle.std.specs.Option.{option_map_or, option_to_list}
 use Rattle.indexmap.specs.IndexSet.{insert_key}
 use Rattle.sa_ast.specs.declared.class.Feature.{Feature}
-use Rattle.sa_types.specs.declared.sig.Sig.{Sig}
+use Rattle.sa_subst.specs.declared.sig.Sig.{Sig}
 use Rattle.sa_overload.specs.Conflict.{do_conflict}
 use Rattle.sa_include_conflicts.specs.Clashes.{NoneClash, do_clash, meets}
 use Rattle.sa_include_conflicts.specs.KnownSignatures.{AddsFeature, AddsSignature, AreApart, signatures_of}

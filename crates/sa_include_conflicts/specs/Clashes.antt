@@ -1,9 +1,9 @@
--- Which features of a class conflict: those of which two signatures do. `immutable` tells whether the class is.
+-- Which features of a class conflict: those of which two signatures do. `immutable` is whether the class is.
 use Rattle.std.specs.Prelude.{◌≡◌, ◌||◌, Bool, true, false, List}
 use Rattle.std.specs.List.{AllPairs}
 use Rattle.std.specs.Option.{option_map_or}
 use Rattle.sa_ast.specs.declared.class.Feature.{Feature}
-use Rattle.sa_types.specs.declared.sig.Sig.{Sig}
+use Rattle.sa_subst.specs.declared.sig.Sig.{Sig}
 use Rattle.sa_overload.specs.Conflict.{do_conflict}
 use Rattle.sa_include_conflicts.specs.Signatures.{own_signature, writer_signature}
 

@@ -1,11 +1,11 @@
--- What the features of a class have of one that an include clause brings: itself, or one that conflicts with it.
+-- What the features of a class have of one that an include clause contributes: itself, or one that conflicts with it.
 use Rattle.std.specs.Prelude.{◌≡◌, ◌||◌, Bool, false, ℕ, List, flat_map, map}
 use Rattle.std.specs.List.{list_any}
 use Rattle.std.specs.Option.{option_map_or}
 use Rattle.sa_ast.specs.declared.class.Feature.{Feature}
 use Rattle.sa_ast.specs.declared.ty.ModeTy.{ModeTy}
 use Rattle.sa_ast.specs.declared.ty.Ty.{Ty}
-use Rattle.sa_types.specs.declared.sig.Sig.{Sig}
+use Rattle.sa_subst.specs.declared.sig.Sig.{Sig}
 use Rattle.sa_overload.specs.Conflict.{do_conflict}
 use Rattle.sa_include_conflicts.specs.declared.apart.KnownSignatures.{KnownSignatures}
 use Rattle.sa_include_conflicts.specs.KnownSignatures.{signatures_of}

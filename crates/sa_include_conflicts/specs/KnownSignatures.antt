@@ -1,15 +1,15 @@
--- The signatures of features, while they are tried one after the other.
+-- The signatures of features, while they are checked one by one.
 use Rattle.std.specs.Prelude.{◌≡◌, ◌++◌, Bool, false, true, ℕ, List, [], ◌∷◌, flat_map, take}
 use Rattle.std.specs.List.{list_any, position_or_len}
 use Rattle.std.specs.Option.{option_map, option_map_or, option_to_list}
 use Rattle.sa_ast.specs.declared.class.Feature.{Feature}
-use Rattle.sa_types.specs.declared.sig.Sig.{Sig}
+use Rattle.sa_subst.specs.declared.sig.Sig.{Sig}
 use Rattle.sa_overload.specs.Conflict.{do_conflict}
 use Rattle.sa_include_conflicts.specs.Clashes.{NoneClash}
 use Rattle.sa_include_conflicts.specs.declared.groups.Groups.{Groups}
 use Rattle.sa_include_conflicts.specs.Signatures.{own_signature, writer_signature}
 
--- a signature stands behind the others, and conflicts with none of them
+-- a signature is after the others, and conflicts with none of them
 pub record AddsSignature (s : Sig) (old new : List Sig) : Type 0 where
   pub apart : list_any (do_conflict s) old ≡ false
   pub added : new ≡ old ++ s ∷ []
@@ -34,7 +34,7 @@ module _ (immutable : Bool) where
 abbrev pub group_number : List Sig → Sig → ℕ
 group_number firsts s = position_or_len (do_conflict s) firsts
 
--- the group of a signature is that of the first one with which it conflicts, behind the others where it conflicts with none
+-- the group of a signature is that of the first one with which it conflicts, after the others if it conflicts with none
 pub record IsGroupOf (s : Sig) (old new : List Sig) (group : ℕ) : Type 0 where
   pub more : List Sig
   pub grown : new ≡ old ++ more
@@ -49,7 +49,7 @@ module _ (immutable : Bool) where
     pub writer_known : option_map_or (λ w. list_any (do_conflict w) firsts) (writer_signature immutable f) true ≡ true
     pub writer : groups.writer ≡ option_map (group_number firsts) (writer_signature immutable f)
 
-  -- and they are found among the old ones, or stand behind these
+  -- and they are found among the old ones, or are after these
   pub record IsGroupedBy (old new : List Sig) (f : Feature) (groups : Groups) : Type 0 where
     pub more : List Sig
     pub grown : new ≡ old ++ more

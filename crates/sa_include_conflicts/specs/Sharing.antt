@@ -30,7 +30,7 @@ HaveCommon f g = (n : ℕ) × HasGroup f n × HasGroup g n
 abbrev pub groups_at : Conflicts → ℕ → Option Groups
 groups_at conflicts place = slice_get conflicts.of.items place
 
--- the features at two places have a group in common exactly where they conflict
+-- the features at two indices have a group in common exactly if they conflict
 pub record AreGrouped (features : ClassFeatures) (conflicts : Conflicts) : Type 0 where
   pub count : length conflicts.of.items ≡ length (all_features features)
   pub exactly : (p q : ℕ) (f g : Feature) (m n : Groups)
@@ -41,12 +41,12 @@ pub record AreGrouped (features : ClassFeatures) (conflicts : Conflicts) : Type 
 -- ---- the first conflict
 
 module _ (conflicts : Conflicts) (stays : List Bool) where
-  -- the feature at a place stays, and has these groups
+  -- the feature at an index stays, and has these groups
   pub record StaysWith (place : ℕ) (groups : Groups) : Type 0 where
     pub at : groups_at conflicts place ≡ Some groups
     pub kept : is_set stays place ≡ true
 
-  -- it has a group in common with one that stays at a place before, from `from` on
+  -- it has a group in common with one that stays at an index before, from `from` on
   pub record IsInConflict (from place : ℕ) : Type 0 where
     pub groups : Groups
     pub here : StaysWith place groups
@@ -57,7 +57,7 @@ module _ (conflicts : Conflicts) (stays : List Bool) where
     pub there : StaysWith earlier other
     pub common : HaveCommon other groups
 
-  -- none is, from a place up to another
+  -- none is, from an index up to another
   pub record NoConflict (from to : ℕ) : Type 0 where
     pub none : (place : ℕ) → place < to → ¬ IsInConflict from place
 
@@ -87,7 +87,7 @@ pub record AddsGroup (group : ℕ) (old new : Visited) : Type 0 where
 pub record AddsGroups (groups : Groups) (old new : Visited) : Type 0 where
   pub exactly : (n : ℕ) → (is_marked new n ≡ true) ↔ ((is_marked old n ≡ true) ⊎ HasGroup groups n)
 
--- they are marked too where the test holds
+-- they are marked too if the test is true
 pub record AddsWhere (holds : Bool) (groups : Groups) (old new : Visited) : Type 0 where
   pub added : holds ≡ true → AddsGroups groups old new
   pub kept : holds ≡ false → new ≡ old

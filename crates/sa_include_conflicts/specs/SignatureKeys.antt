@@ -1,5 +1,5 @@
--- Signatures as keys of a table, in which two are one where they conflict: conflict is an equivalence, and what is hashed of two that
--- conflict is equal.
+-- Signatures as keys of a table, in which two are equal if they conflict: conflict is an equivalence, and the hashes of two that
+-- conflict are equal.
 use Rattle.std.specs.Prelude.{◌≡◌, ◌++◌, ◌&&◌, ◌||◌, Bool, true, false, Option, Some, None, cond, refl, is_some}
 use Rattle.std.specs.Bool.{Decides, beq}
 use Rattle.std.specs.Cmp.{IsEquivalence, and_equiv, on_equiv, bool_eq_equiv, booleans_Decides, equiv}
@@ -16,8 +16,8 @@ use Rattle.sa_ast.specs.Names.{name_writes}
 use Rattle.sa_ast.specs.TypeEquality.{same_mode, same_type, same_type_Decides, same_type_equiv}
 use Rattle.sa_ast.specs.TypeHash.{mode_writes, type_writes}
 use Rattle.sa_ast.specs.Types.{BareTy, bare}
-use Rattle.sa_types.specs.Abstract.{is_abstract_bare, is_abstract_type}
-use Rattle.sa_types.specs.declared.sig.Sig.{Sig}
+use Rattle.sa_subst.specs.Abstract.{is_abstract_bare, is_abstract_type}
+use Rattle.sa_subst.specs.declared.sig.Sig.{Sig}
 use Rattle.sa_overload.specs.Conflict.{args_clash, do_conflict, types_clash}
 
 -- ---- what is hashed

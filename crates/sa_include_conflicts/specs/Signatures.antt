@@ -9,7 +9,7 @@ use Rattle.sa_ast.specs.declared.ty.Mode.TheVariants.{In}
 use Rattle.sa_ast.specs.declared.ty.ModeTy.{ModeTy}
 use Rattle.sa_ast.specs.declared.ty.Ty.{Ty}
 use Rattle.sa_ast.specs.declared.ty.Ty.TheVariants as ty
-use Rattle.sa_types.specs.declared.sig.Sig.{Sig}
+use Rattle.sa_subst.specs.declared.sig.Sig.{Sig}
 
 -- ---- the one by which it is read or called
 

@@ -1,5 +1,5 @@
--- Which features of a class stay. A feature that a class writes replaces one that its includes bring, and one that is no stub replaces a
--- stub, where the two conflict. One that is itself replaced replaces nothing.
+-- Which features of a class stay. A feature that a class writes replaces one that it includes, and one that is no stub replaces a
+-- stub, if the two conflict. One that is itself replaced replaces nothing.
 use Rattle.std.specs.Prelude.{◌≡◌, ◌&&◌, ◌||◌, ◌++◌, Bool, not, ℕ, List, Some, cond, filter, map, slice_get}
 use Rattle.std.specs.List.{list_any}
 use Rattle.sa_ast.specs.declared.class.Feature.{Feature}
@@ -20,7 +20,7 @@ module _ (immutable : Bool) where
   unfoldable pub meets_any : List Feature → Feature → Bool
   meets_any others f = list_any (λ g. do_clash immutable g f) others
 
-  -- ---- the features of a class that replace others: those that its includes bring and those that it writes are given
+  -- ---- the features of a class that replace others: those that it includes and those that it writes are given
 
   abbrev pub written_bodies : List Feature → List Feature
   written_bodies written = filter is_body written
@@ -65,7 +65,7 @@ pub record AreMarked (features : ClassFeatures) (conflicts : Conflicts) (marked 
   pub exactly : (place : ℕ) (f : Feature) (groups : Groups) → slice_get (all_features features) place ≡ Some f
       → groups_at conflicts place ≡ Some groups → has_marked groups marks ≡ meets_any features.immutable marked f
 
--- so are those of the written bodies, of the brought ones that stay and of the written stubs that do
+-- so are those of the written bodies, of the included ones that stay and of the written stubs that do
 pub record AreReplacing (features : ClassFeatures) (conflicts : Conflicts) (replacing : ReplacementMarks) : Type 0 where
   pub written_bodies :
       AreMarked features conflicts (written_bodies features.immutable features.written.now) replacing.written_bodies

@@ -28,7 +28,7 @@ keeps_stub kind features = not (is_partial kind) && has_stub features
 -- ---- the first stub that stays
 
 module _ (features : List Feature) (stays : List Bool) where
-  -- a stub stays at a place
+  -- a stub stays at an index
   pub record IsStubLeft (place : ℕ) (f : Feature) : Type 0 where
     pub at : slice_get features place ≡ Some f
     pub stub : is_stub_part f.part ≡ true

@@ -1,4 +1,4 @@
-//! Features of which no two conflict, tried: each signature is put into a table, in which none of an earlier feature conflicts with it.
+//! A run-time check that no two features conflict: each signature goes into a table, in which it conflicts with none of an earlier feature.
 
 ghost use Rattle.std.specs.Prelude.{IfOk, OnOk};
 ghost use Rattle.sa_include_conflicts.specs.IncludedFeatures.{HasSignatures};
@@ -7,9 +7,10 @@ ghost use Rattle.sa_include_conflicts.specs.KnownSignatures.{AddsFeature, AddsSi
 
 use crate::signature::{own_signature, writer_signature};
 use crate::signature_key::SignatureKey;
+use failure::{Failure, Invariant, broken};
 use indexmap::IndexSet;
-use sa_ast::{Feature, NoMemory};
-use sa_types::Sig;
+use sa_ast::Feature;
+use sa_subst::Sig;
 use std::alloc::Global;
 
 /// The signatures of features of which no two conflict.
@@ -18,18 +19,18 @@ pub struct KnownSignatures {
     pub(crate) shapes: IndexSet<SignatureKey>,
 }
 
-/// The signatures of the features of a class. It tries that no two of these conflict, which is known to the writer and not to
+/// The signatures of the features of a class. It checks that no two of these conflict, which is known to the author and not to
 /// a proof.
 ///
 /// # Errors
 ///
-/// `NoMemory`, also where two conflict.
+/// A `Failure`: `Broken` where two conflict.
 #[tactic(auto, using(crate::proofs::Separate::none_apart, crate::proofs::Separate::more_apart))]
 pub fn try_apart(
     alloc: Global,
     features: &[Feature],
     immutable: bool,
-) -> Result<KnownSignatures, NoMemory>
+) -> Result<KnownSignatures, Failure>
     ensures none_clash { OnOk result (NoneClash immutable features.now) }
     ensures signatures { IfOk result (HasSignatures immutable features.now) }
 {
@@ -50,7 +51,7 @@ impl KnownSignatures {
         alloc: Global,
         feature: &Feature,
         immutable: bool,
-    ) -> Result<(), NoMemory>
+    ) -> Result<(), Failure>
         ensures { OnOk result (AddsFeature immutable feature.now self.old.shapes.keys self.new.shapes.keys) }
     {
         self.add(own_signature(alloc, feature)?)?;
@@ -65,12 +66,12 @@ impl KnownSignatures {
 
     /// Adds a signature, which conflicts with none of the others.
     #[tactic(auto, using(crate::proofs::Separate::adds_new))]
-    fn add(&mut self, sig: Sig) -> Result<(), NoMemory>
+    fn add(&mut self, sig: Sig) -> Result<(), Failure>
         ensures { OnOk result (AddsSignature sig self.old.shapes.keys self.new.shapes.keys) }
     {
         let is_new = self.shapes.insert(SignatureKey::new(sig))?;
         if !is_new {
-            return Err(NoMemory);
+            return broken(Invariant::RuleDenied);
         }
         Ok(())
     }

@@ -9,10 +9,11 @@ use crate::groups::{Groups, Visited};
 use crate::lists::is_set;
 use crate::signature::{own_signature, writer_signature};
 use crate::signature_key::SignatureKey;
+use failure::{Failure, Invariant};
 use indexmap::IndexSet;
-use sa_ast::{Feature, NoMemory};
+use sa_ast::Feature;
 use sa_graph::entry;
-use sa_types::Sig;
+use sa_subst::Sig;
 use std::alloc::Global;
 
 /// Signatures in groups of those that conflict with one another. A group has the number of its first signature.
@@ -34,11 +35,11 @@ pub struct Conflicts {
 }
 
 impl Conflicts {
-    /// The groups of the feature at a place.
-    pub(crate) fn at(&self, place: usize) -> Result<Groups, NoMemory>
+    /// The groups of the feature at an index.
+    pub(crate) fn at(&self, place: usize) -> Result<Groups, Failure>
         ensures { IfOk result (λ groups. groups_at self.now place ≡ Some groups) }
     {
-        entry(self.of.as_slice(), place)
+        entry(self.of.as_slice(), place, Invariant::ConflictTable)
     }
 }
 
@@ -47,9 +48,9 @@ impl Conflicts {
 ///
 /// # Errors
 ///
-/// `NoMemory`.
+/// A `Failure`.
 #[tactic(auto, using(crate::proofs::Grouping::groupings))]
-pub fn group_features(alloc: Global, features: &ClassFeatures<'_>) -> Result<Conflicts, NoMemory>
+pub fn group_features(alloc: Global, features: &ClassFeatures<'_>) -> Result<Conflicts, Failure>
     ensures { IfOk result (AreGrouped features.now) }
 {
     let mut grouping = Grouping {
@@ -67,7 +68,7 @@ pub fn group_features(alloc: Global, features: &ClassFeatures<'_>) -> Result<Con
 impl Grouping {
     /// The groups of the signatures of a feature.
     #[tactic(auto, using(crate::proofs::Grouping::grouped_one, crate::proofs::Grouping::grouped_two))]
-    fn groups_of(&mut self, alloc: Global, feature: &Feature) -> Result<Groups, NoMemory>
+    fn groups_of(&mut self, alloc: Global, feature: &Feature) -> Result<Groups, Failure>
         ensures groups { IfOk result (IsGroupedBy self.old.immutable self.old.known.keys self.new.known.keys feature.now) }
         ensures immutable { OnOk result (self.new.immutable ≡ self.old.immutable) }
     {
@@ -81,9 +82,9 @@ impl Grouping {
         }
     }
 
-    /// The group of a signature, a new one where it conflicts with none of the earlier ones.
+    /// The group of a signature, a new one if it conflicts with none of the earlier ones.
     #[tactic(auto, using(crate::proofs::Grouping::group_found))]
-    fn group_of(&mut self, sig: Sig) -> Result<usize, NoMemory>
+    fn group_of(&mut self, sig: Sig) -> Result<usize, Failure>
         ensures group { IfOk result (IsGroupOf sig self.old.known.keys self.new.known.keys) }
         ensures immutable { OnOk result (self.new.immutable ≡ self.old.immutable) }
     {
@@ -92,11 +93,11 @@ impl Grouping {
     }
 }
 
-/// The first of the features from a place up to another that stays and conflicts with an earlier one of them that stays.
+/// The first of the features from an index up to another that stays and conflicts with an earlier one of them that stays.
 ///
 /// # Errors
 ///
-/// `NoMemory`.
+/// A `Failure`.
 #[tactic(auto, using(crate::proofs::FirstConflict::conflicting))]
 pub fn first_conflict(
     alloc: Global,
@@ -104,7 +105,7 @@ pub fn first_conflict(
     stays: &[bool],
     from: usize,
     to: usize,
-) -> Result<Option<usize>, NoMemory>
+) -> Result<Option<usize>, Failure>
     ensures { IfOk result (λ found. MatchOption found
         (NoConflict conflicts.now stays.now from to)
         (IsFirstConflict conflicts.now stays.now from to)) }

@@ -5,13 +5,14 @@ ghost use Rattle.sa_include_conflicts.specs.Sharing.{all_features};
 ghost use Rattle.sa_include_conflicts.specs.Stub.{is_stub_part};
 
 use crate::lists::item;
-use sa_ast::{Feature, FeatureBody, NoMemory};
+use failure::Failure;
+use sa_ast::{Feature, FeatureBody};
 
-/// The features of a class before any replaces another: those that its includes bring, then those that it writes. A place
+/// The features of a class before any replaces another: those that it includes, then those that it writes. An index
 /// counts them in this order, from 0.
 #[derive(Clone, Copy)]
 pub struct ClassFeatures<'a> {
-    /// Those that includes bring.
+    /// Those that a class includes.
     pub inherited: &'a [Feature],
     /// Those that the class writes.
     pub written: &'a [Feature],
@@ -27,13 +28,13 @@ impl<'a> ClassFeatures<'a> {
         self.inherited.len() + self.written.len()
     }
 
-    /// The feature at a place.
+    /// The feature at an index.
     ///
     /// # Errors
     ///
-    /// `NoMemory` where there is none.
+    /// `Broken` where there is none.
     #[tactic(auto, using(crate::proofs::Places::places))]
-    pub fn at(&self, place: usize) -> Result<&'a Feature, NoMemory>
+    pub fn at(&self, place: usize) -> Result<&'a Feature, Failure>
         ensures { IfOk result (λ feature. slice_get (all_features self.now) place ≡ Some feature.now) }
     {
         let inherited = self.inherited.len();

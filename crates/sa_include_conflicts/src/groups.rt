@@ -3,7 +3,7 @@
 ghost use Rattle.std.specs.Prelude.{◌≡◌, IfOk, OnOk, false, ℕ};
 ghost use Rattle.sa_include_conflicts.specs.Sharing.{AddsGroup, AddsGroups, AddsWhere, NoneMarked, has_marked, is_marked};
 
-use sa_ast::NoMemory;
+use failure::{Failure, Invariant, broken};
 use std::alloc::Global;
 
 /// The groups that the signatures of a feature are in. Two features conflict where they have a group in common.
@@ -20,9 +20,9 @@ pub(crate) struct Visited {
 }
 
 impl Visited {
-    /// No marks at so many groups.
+    /// No marks at n groups.
     #[tactic(auto, using(crate::proofs::Marking::none_marked))]
-    pub(crate) fn none(alloc: Global, count: usize) -> Result<Visited, NoMemory>
+    pub(crate) fn none(alloc: Global, count: usize) -> Result<Visited, Failure>
         ensures { IfOk result NoneMarked }
     {
         let set = vec![in alloc; false; count]?;
@@ -44,7 +44,7 @@ impl Visited {
 
     /// Marks the groups of a feature.
     #[tactic(auto, using(crate::proofs::Marking::adds_own, crate::proofs::Marking::adds_both))]
-    pub(crate) fn add(&mut self, groups: &Groups) -> Result<(), NoMemory>
+    pub(crate) fn add(&mut self, groups: &Groups) -> Result<(), Failure>
         ensures { OnOk result (AddsGroups groups.now self.old self.new) }
     {
         self.mark(groups.own)?;
@@ -57,9 +57,9 @@ impl Visited {
         }
     }
 
-    /// Marks them where a test holds.
+    /// Marks them if a test is true.
     #[tactic(auto, using(crate::proofs::Marking::added_where))]
-    pub(crate) fn add_where(&mut self, holds: bool, groups: &Groups) -> Result<(), NoMemory>
+    pub(crate) fn add_where(&mut self, holds: bool, groups: &Groups) -> Result<(), Failure>
         ensures { OnOk result (AddsWhere holds groups.now self.old self.new) }
     {
         if holds {
@@ -75,11 +75,11 @@ impl Visited {
     }
 
     #[tactic(auto, using(crate::proofs::Marking::mark_added))]
-    fn mark(&mut self, group: usize) -> Result<(), NoMemory>
+    fn mark(&mut self, group: usize) -> Result<(), Failure>
         ensures { OnOk result (AddsGroup group self.old self.new) }
     {
         if group >= self.set.len() {
-            return Err(NoMemory);
+            return broken(Invariant::ConflictTable);
         }
         self.set[group] = true;
         Ok(())

@@ -1,19 +1,20 @@
-//! Whether the features of a class have one that an include clause brings: it is there, or one that conflicts with it.
+//! Whether the features of a class have one that an include clause contributes: it is there, or one that conflicts with it.
 
 ghost use Rattle.std.specs.Prelude.{◌≡◌, IfOk, map};
-ghost use Rattle.sa_types.specs.Table.{put_in};
+ghost use Rattle.sa_subst.specs.Table.{put_in};
 ghost use Rattle.sa_include_conflicts.specs.IncludedFeatures as spec;
 
 use crate::apart::KnownSignatures;
 use crate::signature::{own_signature, writer_signature};
 use crate::signature_key::SignatureKey;
-use sa_ast::{Feature, ModeTy, Name, NoMemory};
-use sa_types::{Sig, Substitution, subst_with};
+use failure::Failure;
+use sa_ast::{Feature, ModeTy, Name};
+use sa_subst::{Sig, Substitution, subst_with};
 use sqlite_items::Items;
 use std::alloc::Global;
 
 impl KnownSignatures {
-    /// Whether a feature conflicts with one of these under a new name and with types put in, as it does with itself.
+    /// Whether a feature conflicts with one of these under a new name and with types substituted, as it does with itself.
     pub fn has_included(
         &self,
         alloc: Global,
@@ -21,7 +22,7 @@ impl KnownSignatures {
         immutable: bool,
         name: &Name,
         by: &Substitution<'_>,
-    ) -> Result<bool, NoMemory>
+    ) -> Result<bool, Failure>
         ensures { IfOk result (λ has. has ≡ spec.has_included (put_in by.now) name.now immutable self.now.shapes.keys feature.now) }
     {
         let own = own_signature(alloc, feature)?;
@@ -40,7 +41,7 @@ impl KnownSignatures {
         sig: Sig,
         name: &Name,
         by: &Substitution<'_>,
-    ) -> Result<bool, NoMemory>
+    ) -> Result<bool, Failure>
         ensures { IfOk result (λ meets. meets ≡ spec.is_met (put_in by.now) name.now self.now.shapes.keys sig) }
     {
         let shape = SignatureKey::new(inherited(alloc, sig, name, by)?);
@@ -48,8 +49,8 @@ impl KnownSignatures {
     }
 }
 
-/// A signature under this name, with types put in those of its arguments.
-fn inherited(alloc: Global, sig: Sig, name: &Name, by: &Substitution<'_>) -> Result<Sig, NoMemory>
+/// A signature under this name, with types substituted in those of its arguments.
+fn inherited(alloc: Global, sig: Sig, name: &Name, by: &Substitution<'_>) -> Result<Sig, Failure>
     ensures { IfOk result (λ copy. copy ≡ spec.inherited (put_in by.now) name.now sig) }
 {
     let Sig { args, result, .. } = sig;
@@ -63,7 +64,7 @@ fn brought_arguments(
     alloc: Global,
     args: &[ModeTy],
     by: &Substitution<'_>,
-) -> Result<Items<ModeTy>, NoMemory>
+) -> Result<Items<ModeTy>, Failure>
     ensures { IfOk result (λ copies. copies ≡ map (spec.inherited_argument (put_in by.now)) args.now) }
 {
     let mut copies = Items::new(alloc);

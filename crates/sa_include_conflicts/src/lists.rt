@@ -1,22 +1,22 @@
-//! Places in lists.
+//! Indices in lists.
 
 ghost use Rattle.std.specs.Prelude.{◌≡◌, IfOk, Some, slice_get};
 ghost use Rattle.sa_include_conflicts.specs.Sharing as spec;
 
-use sa_ast::NoMemory;
+use failure::{Failure, Invariant, known};
 
-/// What a list holds at a place where it holds something. That it does is known to the writer and not to a proof, so
-/// another place is answered as want of memory.
-pub fn item<T>(list: &[T], at: usize) -> Result<&T, NoMemory>
+/// The element of a list at an index that it has.
+///
+/// # Errors
+///
+/// `Broken` at another index: that there is none is no contract yet.
+pub fn item<T>(list: &[T], at: usize) -> Result<&T, Failure>
     ensures { IfOk result (λ found. slice_get list.now at ≡ Some found.now) }
 {
-    match sqlite_items::at(list, at) {
-        Some(found) => Ok(found),
-        None => Err(NoMemory),
-    }
+    known(sqlite_items::at(list, at), Invariant::ConflictTable)
 }
 
-/// Whether there is a mark at a place. There is none behind the list.
+/// Whether there is a mark at an index. There is none after the list.
 pub fn is_set(marks: &[bool], at: usize) -> bool
     ensures { result ≡ spec.is_set marks.now at }
 {

@@ -10,20 +10,21 @@ ghost use Rattle.sa_include_conflicts.specs.Stub.{is_stub_part};
 use crate::conflicts::Conflicts;
 use crate::features::{ClassFeatures, is_stub};
 use crate::groups::{Groups, Visited};
-use sa_ast::{Feature, NoMemory};
+use failure::Failure;
+use sa_ast::Feature;
 use std::alloc::Global;
 
-/// For each feature of a class, by its place, whether it stays: all do but those that are replaced.
+/// For each feature of a class, by its index, whether it stays: all do but those that are replaced.
 ///
 /// # Errors
 ///
-/// `NoMemory`.
+/// A `Failure`.
 #[tactic(auto, using(crate::proofs::Replacements::all_at))]
 pub fn retained_features(
     alloc: Global,
     features: &ClassFeatures<'_>,
     conflicts: &Conflicts,
-) -> Result<Vec<bool>, NoMemory>
+) -> Result<Vec<bool>, Failure>
     requires { AreGrouped features.now conflicts.now }
     ensures { IfOk result (λ stays. stays.items ≡ all_stay features.now) }
 {
@@ -40,7 +41,7 @@ pub fn retained_features(
 struct ReplacementMarks {
     /// Of the features that the class writes and that are no stubs.
     written_bodies: Visited,
-    /// Of the brought ones that are none and stay.
+    /// Of the included ones that are none and stay.
     inherited_bodies: Visited,
     /// Of the written stubs that stay.
     written_stubs: Visited,
@@ -51,7 +52,7 @@ fn replacing_groups(
     alloc: Global,
     features: &ClassFeatures<'_>,
     conflicts: &Conflicts,
-) -> Result<ReplacementMarks, NoMemory>
+) -> Result<ReplacementMarks, Failure>
     requires { AreGrouped features.now conflicts.now }
     ensures { IfOk result (AreReplacing features.now conflicts.now) }
 {
@@ -76,7 +77,7 @@ fn mark_written_bodies(
     alloc: Global,
     features: &ClassFeatures<'_>,
     conflicts: &Conflicts,
-) -> Result<Visited, NoMemory>
+) -> Result<Visited, Failure>
     requires { AreGrouped features.now conflicts.now }
     ensures { IfOk result (AreMarked features.now conflicts.now (spec.written_bodies features.now.immutable features.now.written.now)) }
 {
@@ -96,7 +97,7 @@ fn mark_brought_bodies(
     features: &ClassFeatures<'_>,
     conflicts: &Conflicts,
     written: &Visited,
-) -> Result<Visited, NoMemory>
+) -> Result<Visited, Failure>
     requires grouped { AreGrouped features.now conflicts.now }
     requires written { AreMarked features.now conflicts.now
         (spec.written_bodies features.now.immutable features.now.written.now) written.now }
@@ -119,7 +120,7 @@ fn mark_written_stubs(
     conflicts: &Conflicts,
     written: &Visited,
     inherited: &Visited,
-) -> Result<Visited, NoMemory>
+) -> Result<Visited, Failure>
     requires grouped { AreGrouped features.now conflicts.now }
     requires written { AreMarked features.now conflicts.now
         (spec.written_bodies features.now.immutable features.now.written.now) written.now }
@@ -141,14 +142,14 @@ fn mark_written_stubs(
 }
 
 impl ReplacementMarks {
-    /// Whether the feature at a place stays.
+    /// Whether the feature at an index stays.
     #[tactic(auto, using(crate::proofs::Replacements::one_stays))]
     fn stays(
         &self,
         features: &ClassFeatures<'_>,
         conflicts: &Conflicts,
         place: usize,
-    ) -> Result<bool, NoMemory>
+    ) -> Result<bool, Failure>
         requires { AreReplacing features.now conflicts.now self.now }
         ensures { IfOk result (λ stays. slice_get (all_stay features.now) place ≡ Some stays) }
     {
@@ -177,7 +178,7 @@ impl ReplacementMarks {
     }
 }
 
-/// Whether a brought feature with these groups is no stub and stays.
+/// Whether an included feature with these groups is no stub and stays.
 fn is_staying_body(feature: &Feature, groups: &Groups, written: &Visited) -> bool
     ensures { result ≡ (is_body feature.now && not (has_marked groups.now written.now)) }
 {

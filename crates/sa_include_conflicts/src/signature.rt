@@ -5,13 +5,14 @@ ghost use Rattle.std.specs.Prelude.{◌≡◌, IfOk, map};
 ghost use Rattle.std.specs.Option.{option_map, option_to_list};
 ghost use Rattle.sa_include_conflicts.specs.Signatures as spec;
 
-use sa_ast::{Feature, FeatureBody, FormalParam, Mode, ModeTy, Name, NoMemory, Ty};
-use sa_types::Sig;
+use failure::Failure;
+use sa_ast::{Feature, FeatureBody, FormalParam, Mode, ModeTy, Name, Ty};
+use sa_subst::Sig;
 use sqlite_items::Items;
 use std::alloc::{AllocError, Global};
 
 /// The signature by which a feature is read or called.
-pub(crate) fn own_signature(alloc: Global, feature: &Feature) -> Result<Sig, NoMemory>
+pub(crate) fn own_signature(alloc: Global, feature: &Feature) -> Result<Sig, Failure>
     ensures { IfOk result (λ sig. sig ≡ spec.own_signature feature.now) }
 {
     let name = feature.name.name.copy(alloc)?;
@@ -55,7 +56,7 @@ pub(crate) fn writer_signature(
     alloc: Global,
     feature: &Feature,
     immutable: bool,
-) -> Result<Option<Sig>, NoMemory>
+) -> Result<Option<Sig>, Failure>
     ensures { IfOk result (λ sig. sig ≡ spec.writer_signature immutable feature.now) }
 {
     let result = match feature.part {

@@ -1,4 +1,4 @@
-//! Signatures as keys of a table, in which two are equal where they conflict.
+//! Signatures as keys of a table, in which two are equal if they conflict.
 
 ghost use Rattle.std.specs.Prelude.{◌≡◌, fold};
 ghost use Rattle.std.specs.Cmp.{partial_equiv_from_equiv};
@@ -8,7 +8,7 @@ ghost use Rattle.sa_include_conflicts.specs.SignatureKeys.{argument_writes, conf
 
 use sa_ast::{ModeTy, Ty};
 use sa_overload::conflict;
-use sa_types::{Sig, is_abstract};
+use sa_subst::{Sig, is_abstract};
 use std::hash::{Hash, Hasher};
 use std::marker::Model;
 
@@ -19,7 +19,7 @@ pub(crate) struct SignatureKey {
 }
 
 impl Model for SignatureKey {
-    ghost use Rattle.sa_types.specs.declared.sig.Sig.{Sig};
+    ghost use Rattle.sa_subst.specs.declared.sig.Sig.{Sig};
     ghost use Rattle.sa_ast.specs.contracts.ty.Ty as e;
     ghost use Rattle.std.specs.Coded.{codes};
 

@@ -6,19 +6,20 @@ ghost use Rattle.sa_include_conflicts.specs.Stub as spec;
 
 use crate::features::{ClassFeatures, is_stub};
 use crate::lists::is_set;
-use sa_ast::{ClassKind, Feature, NoMemory, Pos};
+use failure::Failure;
+use sa_ast::{ClassKind, Feature, Pos};
 
-/// Where the first stub that stays is named (E22), of a class that isn't partial.
+/// The position at which the first stub that stays is named (E22), of a class that isn't partial.
 ///
 /// # Errors
 ///
-/// `NoMemory`.
+/// A `Failure`.
 #[tactic(auto, using(crate::proofs::LeftStubs::stubs))]
 pub fn remaining_stub(
     kind: ClassKind,
     features: &ClassFeatures<'_>,
     stays: &[bool],
-) -> Result<Option<Pos>, NoMemory>
+) -> Result<Option<Pos>, Failure>
     ensures { IfOk result (λ found. MatchOption found
         (spec.NoStubLeft kind (all_features features.now) stays.now)
         (spec.IsFirstStub kind (all_features features.now) stays.now)) }

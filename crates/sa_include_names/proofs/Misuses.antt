@@ -1,4 +1,4 @@
--- Where a type may not stand, at each variant of a type.
+-- The types that aren't allowed where they are, at each variant of a type.
 use Rattle.std.proofs.Common.{◌≡◌, ◌==◌, ◌&&◌, ◌<◌, ℕ, Bool, true, false, not, List, [], ◌∷◌, ◌++◌, Option, None, Some, length, get_or, drop, map, flat_map, slice_get, refl, sym, ap, ◌∙◌}
 use Rattle.std.proofs.lemmas.List.{length-map}
 use Rattle.sa_ast.specs.declared.class.Class.{Class}
@@ -51,11 +51,11 @@ module _ (may : List ℕ → Bool → Bool) where
   unfolding misused misused_arg
   misused_arg-is arg = fold_out-ModeTy (List Pos) (List Pos) (misused_level may) (misused_arg_level may) arg
 
--- an argument whose type may not stand
+-- an argument whose type isn't allowed
 pub arg_here : (may : List ℕ → Bool → Bool) (xs : List ModeTy) (i : ℕ) (x : ModeTy) (b : Pos) → i < length xs → x ≡ get_or xs i x → slice_get (misused may x.ty) 0 ≡ Some b → slice_get (flat_map (misused_arg may) (drop i xs)) 0 ≡ Some b
 arg_here may xs i x b h e here = first_here (misused_arg may) xs i x b h e (ap (λ ps. slice_get ps 0) (misused_arg-is may x) ∙ here)
 
--- ---- types by where they stand
+-- ---- types by where they are
 
 module _ (classes : List Class) (number : List ℕ → Option ℕ) (arrays : List Bool) (kind : ClassKind) (hidden : List ℕ → Bool) where
   pub above-Named : (name : List ℕ) (given : List Ty) (pos : Pos) → misused_above classes number arrays kind hidden (ty.Named name given pos) ≡ unless (not ((length given == 0) && hidden name)) pos ++ misused (may_occur classes number arrays kind hidden) (ty.Named name given pos)

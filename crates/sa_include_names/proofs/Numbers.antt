@@ -13,7 +13,7 @@ use Rattle.sa_include_names.specs.Names.{number_from, number_of, DifferInName}
 use Rattle.sa_include_names.specs.Refusals.{RefusesRepeated}
 use Rattle.sa_include_names.specs.Tables.{HasNumbers, number_in}
 
--- ---- one more class behind the others
+-- ---- one more class after the others
 
 pub number_known : (first : ℕ) (cs : List Class) (c : Class) (name : List ℕ) (k : ℕ) → number_from first cs name ≡ Some k → number_from first (cs ++ c ∷ []) name ≡ Some k
 number_known first [] c name k h = cc

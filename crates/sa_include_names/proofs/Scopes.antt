@@ -1,4 +1,4 @@
--- What names mean in a class, by its tables.
+-- What names denote in a class, by its tables.
 use Rattle.std.proofs.Common.{◌≡◌, ℕ, Bool, List, [], ◌∷◌, Option, None, Some, slice_get, refl, sym, ap, ◌∙◌}
 use Rattle.std.proofs.Math.Path.{fun_ext}
 use Rattle.sa_ast.specs.declared.class.Class.{Class}

@@ -1,4 +1,4 @@
--- Where a type stands in a header or an include clause that may not stand there: the positions, in text order, that of a type before
+-- The types that aren't allowed where they are in a header or an include clause: their positions, in source order, that of a type before
 -- those of the types inside it.
 use Rattle.std.specs.Prelude.{◌&&◌, ◌||◌, ◌==◌, Bool, true, false, not, ℕ, List, [], ◌∷◌, ◌++◌, Option, None, Some}
 use Rattle.std.specs.Prelude.{codes, cond, flat_map, length, nat_eq, slice_get}
@@ -18,9 +18,9 @@ use Rattle.sa_ast.specs.declared.ty.Ty.TheViews.{out-Ty}
 use Rattle.sa_include_names.specs.Includes.{is_set}
 use Rattle.sa_include_names.specs.Names.{hides, number_of}
 
--- ---- types, where it is known of a name, alone or with parameters, whether it may stand
+-- ---- types, by a test whether a name, alone or with parameters, is allowed
 
--- the position, unless it is of what may stand
+-- the position, unless what is there is allowed
 abbrev pub unless : Bool → Pos → List Pos
 unless may pos = cond may [] (pos ∷ [])
 
@@ -32,7 +32,7 @@ joined_result None = []
 joined_result (Some list) = list
 
 module _ (may : List ℕ → Bool → Bool) where
-  -- one level, where the types inside are gone through already
+  -- one level, where the types inside are done already
   abbrev pub misused_level : Ty-F (List Pos) (List Pos) → List Pos
   misused_level (Ty-F.Named name given pos) = unless (may name (length given == 0)) pos ++ joined given
   misused_level (Ty-F.Same pos) = []
@@ -55,7 +55,7 @@ module _ (may : List ℕ → Bool → Bool) where
   abbrev pub misused_option : Option Ty → List Pos
   misused_option of = option_map_or misused of []
 
--- ---- which names may stand
+-- ---- which names are allowed
 
 abbrev pub is_no_partial : ClassKind → Bool
 is_no_partial kind.Partial = false
@@ -79,16 +79,16 @@ is_never_included name = list_any (pointwise nat_eq name) never_included
 -- in a class of this kind, where the names of classes have these numbers, the classes with an array part are marked, and some names
 -- are those of parameters
 module _ (classes : List Class) (number : List ℕ → Option ℕ) (arrays : List Bool) (including : ClassKind) (hidden : List ℕ → Bool) where
-  -- the number of the class that a name is, where it is that of no parameter
+  -- the number of the class that a name is, if it is that of no parameter
   abbrev pub number_seen : List ℕ → Option ℕ
   number_seen name = cond (hidden name) None (number name)
 
-  -- what is to hold of the class with a number holds
+  -- the class with a number has the property
   abbrev pub class_passes : (ℕ → Class → Bool) → Option ℕ → Bool
   class_passes test None = false
   class_passes test (Some k) = option_map_or (test k) (slice_get classes k) false
 
-  -- a name may stand as a type: it is a parameter, or the name of a class that isn't partial
+  -- a name is allowed as a type: it is a parameter, or the name of a class that isn't partial
   abbrev pub may_occur : List ℕ → Bool → Bool
   may_occur name alone = alone && hidden name || class_passes (λ k c. is_no_partial c.kind) (number_seen name)
 
@@ -100,7 +100,7 @@ module _ (classes : List Class) (number : List ℕ → Option ℕ) (arrays : Lis
   unfoldable pub may_include : List ℕ → Bool
   may_include name = class_passes (passes_as_included name) (number_seen name)
 
-  -- ---- types by where they stand
+  -- ---- types by where they are
 
   -- a type after `>` is no bound type and no parameter
   abbrev pub misused_above_level : Ty → Ty-F Ty ModeTy → List Pos

@@ -9,7 +9,7 @@ use Rattle.sa_ast.specs.Types.{BareTy, Named, bare}
 use Rattle.sa_graph.specs.Paths.{HasPath}
 use Rattle.sa_include_names.specs.Names.{hides, number_of}
 
--- the class that a type of an include clause names, which is none where a parameter has the name
+-- the class that a type of an include clause names, which is none if a parameter has the name
 abbrev pub number_included : List Class → Class → BareTy → Option ℕ
 number_included classes c (Named name given) = cond (hides c.params name) None (number_of classes name)
 number_included classes c other = None
@@ -53,20 +53,20 @@ number_named number other = None
 abbrev pub brings_array : (List ℕ → Option ℕ) → List Bool → Include → Bool
 brings_array number marks clause = option_map_or (is_set marks) (number_named number (bare clause.ty)) false
 
--- the clause at a place passes a test, and one before it does
+-- the clause at an index passes a test, and one before it does
 pub record IsSecond (test : Include → Bool) (includes : List Include) (place : ℕ) : Type 0 where
   pub clause : Include
   pub at : slice_get includes place ≡ Some clause
   pub passes : test clause ≡ true
   pub before : count_by test (take place includes) ≡ 1
 
--- it is the second of these clauses that brings an array part
+-- it is the second of these clauses that includes an array part
 pub record IsSecondArray (classes : List Class) (includes : List Include) (place : ℕ) : Type 0 where
   pub arrays : List Bool
   pub marked : AreArrays classes arrays
   pub second : IsSecond (brings_array (number_of classes) arrays) includes place
 
--- one of these clauses brings an array part at most
+-- one of these clauses includes an array part at most
 pub record HasOneArray (classes : List Class) (includes : List Include) : Type 0 where
   pub arrays : List Bool
   pub marked : AreArrays classes arrays

@@ -5,12 +5,12 @@ use Rattle.std.specs.List.{list_any}
 use Rattle.sa_ast.specs.declared.class.Class.{Class}
 use Rattle.sa_ast.specs.declared.class.TypeParam.{TypeParam}
 
--- the place of the first class with a name, where the first of the list has this one
+-- the index of the first class with a name, in a list whose first class has this index
 abbrev pub number_from : ℕ → List Class → List ℕ → Option ℕ
 number_from first [] name = None
 number_from first (c ∷ more) name = cond (pointwise nat_eq c.name.name name) (Some first) (number_from (suc first) more name)
 
--- the number of the class with a name, which is its place
+-- the number of the class with a name, which is its index
 abbrev pub number_of : List Class → List ℕ → Option ℕ
 number_of classes name = number_from 0 classes name
 
@@ -18,7 +18,7 @@ number_of classes name = number_from 0 classes name
 pub record DifferInName (classes : List Class) : Type 0 where
   pub differ : (place : ℕ) (c : Class) → slice_get classes place ≡ Some c → number_of (take place classes) c.name.name ≡ None
 
--- the class at a place has the name of an earlier one, and none before it does
+-- the class at an index has the name of an earlier one, and none before it does
 pub record RepeatsName (classes : List Class) (place : ℕ) (c : Class) : Type 0 where
   pub at : slice_get classes place ≡ Some c
   pub repeats : number_of (take place classes) c.name.name ≢ None

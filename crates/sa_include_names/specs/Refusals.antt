@@ -1,5 +1,5 @@
--- What the classes of a program are refused by for their names and their includes: the first class with the name of an earlier one;
--- where there is none, the first name that may not stand where it does; and where there is none, the first class that includes itself.
+-- The refusals of a program's classes for their names and their includes: the first class with the name of an earlier one;
+-- if there is none, the first name that isn't allowed where it is; and if there is none, the first class that includes itself.
 use Rattle.std.specs.Prelude.{◌≡◌, ◌⊎◌, ℕ, ◌<◌, Bool, List, [], Some, slice_get}
 use Rattle.sa_ast.specs.declared.class.Class.{Class}
 use Rattle.sa_ast.specs.declared.refusal.Refusal.{Refusal}
@@ -22,7 +22,7 @@ module _ (classes : List Class) where
     pub first : slice_get (misused_names classes arrays) 0 ≡ Some refusal.pos
     pub rule : refusal.rule ≡ rule.ClassNotUsable
 
-  -- all names may stand where they do
+  -- all names are allowed where they do
   pub record AreNamesRight : Type 0 where
     pub differ : DifferInName classes
     pub arrays : List Bool

@@ -34,7 +34,7 @@ hidden_in params name = contains (pointwise nat_eq) params.names name
 abbrev pub HasParams : List TypeParam → ParamNames → Type 0
 HasParams params names = (name : List ℕ) → hidden_in names name ≡ hides params name
 
--- ---- what names mean in a class
+-- ---- what names denote in a class
 
 abbrev pub occurs_in : NameScope → List ℕ → Bool → Bool
 occurs_in scope = may_occur scope.classes.now (number_in scope.numbers.now) scope.arrays.now scope.kind (hidden_in scope.params)
@@ -67,7 +67,7 @@ abbrev pub included_in : ParamNames → ClassNumbers → BareTy → Option ℕ
 included_in params numbers (Named name given) = cond (hidden_in params name) None (number_in numbers name)
 included_in params numbers other = None
 
--- a number, where there is one
+-- a number, if there is one
 abbrev pub IsNumber : Option ℕ → ℕ → Type 0
 IsNumber found number = found ≡ Some number
 
@@ -96,11 +96,11 @@ pub record AreGraphOf (classes : List Class) (graph : Graph) : Type 0 where
   pub count : node_count graph ≡ length classes
   pub includes : (a b : ℕ) → IsEdge graph a b ↔ DoesInclude classes a b
 
--- no type may not stand where it does
+-- each type is allowed where it is
 pub record NoneMisused (classes : List Class) (arrays : List Bool) : Type 0 where
   pub none : misused_names classes arrays ≡ []
 
--- the refusal of the first type that may not stand where it does, where the classes with an array part are marked
+-- the refusal of the first type that isn't allowed where it is, where the classes with an array part are marked
 pub record MisusedAt (classes : List Class) (arrays : List Bool) (refusal : Refusal) : Type 0 where
   pub first : slice_get (misused_names classes arrays) 0 ≡ Some refusal.pos
   pub rule : refusal.rule ≡ rule.ClassNotUsable

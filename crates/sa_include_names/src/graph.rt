@@ -6,7 +6,8 @@ ghost use Rattle.sa_include_names.specs.Includes.{AreArrays, is_set};
 ghost use Rattle.sa_include_names.specs.Tables.{AddsEdges, AreEdges, AreGraphOf, HasNumbers, IsNumber, NamesHere, included_in};
 
 use crate::names::{ClassNumbers, ParamNames};
-use sa_ast::{Class, Include, Name, NoMemory, Ty};
+use failure::{Failure, Invariant};
+use sa_ast::{Class, Include, Name, Ty};
 use sa_graph::{Graph, word};
 use std::alloc::Global;
 
@@ -23,7 +24,7 @@ struct Edges {
 
 impl Edges {
     #[tactic(auto, using(crate::proofs::Clauses::classes_added))]
-    fn new(alloc: Global, classes: &[Class], numbers: &ClassNumbers) -> Result<Edges, NoMemory>
+    fn new(alloc: Global, classes: &[Class], numbers: &ClassNumbers) -> Result<Edges, Failure>
         requires { HasNumbers classes.now numbers.now }
         ensures { IfOk result (AreEdges classes.now) }
     {
@@ -33,7 +34,12 @@ impl Edges {
         };
         for (place, class) in classes.iter().enumerate() {
             let params = ParamNames::new(alloc, class.params.as_slice())?;
-            edges.add_clauses(word(place)?, class.includes.as_slice(), &params, numbers)?;
+            edges.add_clauses(
+                word(place, Invariant::IncludeTable)?,
+                class.includes.as_slice(),
+                &params,
+                numbers,
+            )?;
         }
         Ok(edges)
     }
@@ -46,7 +52,7 @@ impl Edges {
         includes: &[Include],
         params: &ParamNames,
         numbers: &ClassNumbers,
-    ) -> Result<(), NoMemory>
+    ) -> Result<(), Failure>
         ensures { OnOk result (AddsEdges number (NamesHere params.now numbers.now includes.now) self.old self.new) }
     {
         for include in includes {
@@ -63,7 +69,7 @@ impl Edges {
         ty: &Ty,
         params: &ParamNames,
         numbers: &ClassNumbers,
-    ) -> Result<(), NoMemory>
+    ) -> Result<(), Failure>
         ensures { OnOk result (AddsEdges number (IsNumber (included_in params.now numbers.now (bare ty.now))) self.old self.new) }
     {
         match included_class(ty, params, numbers) {
@@ -76,7 +82,7 @@ impl Edges {
     }
 
     #[tactic(auto, using(crate::proofs::Clauses::edge_added))]
-    fn add(&mut self, start: u32, end: u32) -> Result<(), NoMemory>
+    fn add(&mut self, start: u32, end: u32) -> Result<(), Failure>
         ensures { OnOk result (AddsEdges start (λ to. to ≡ end) self.old self.new) }
     {
         self.starts.push(start)?;
@@ -110,7 +116,7 @@ pub(crate) fn include_graph(
     alloc: Global,
     classes: &[Class],
     numbers: &ClassNumbers,
-) -> Result<Graph, NoMemory>
+) -> Result<Graph, Failure>
     requires { HasNumbers classes.now numbers.now }
     ensures { IfOk result (AreGraphOf classes.now) }
 {
@@ -126,7 +132,7 @@ pub(crate) fn array_parts(
     classes: &[Class],
     graph: &Graph,
     numbers: &ClassNumbers,
-) -> Result<Vec<bool>, NoMemory>
+) -> Result<Vec<bool>, Failure>
     requires numbers { HasNumbers classes.now numbers.now }
     requires graph { AreGraphOf classes.now graph.now }
     ensures { IfOk result (λ marks. AreArrays classes.now marks.items) }

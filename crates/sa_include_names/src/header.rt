@@ -1,4 +1,4 @@
-//! The names in headers and include clauses: each is that of a class, or of a parameter, that may stand there (E12).
+//! The names in headers and include clauses: each is that of a class, or of a parameter, that is allowed there (E12).
 
 ghost use Rattle.std.specs.Prelude.{◌≡◌, ◌&&◌, ◌==◌, IfOk, None, cond, flat_map, length};
 ghost use Rattle.sa_include_names.specs.Headers.{is_never_included, misused, misused_arg, misused_class, misused_names, misused_option};
@@ -8,11 +8,12 @@ ghost use Rattle.sa_include_names.specs.Tables.{misused_include_in, number_in, p
 
 use crate::graph::is_marked;
 use crate::names::{ClassNumbers, ParamNames};
-use sa_ast::{Class, ClassKind, Include, ModeTy, Name, NoMemory, Pos, Ty, TypeParam};
+use failure::Failure;
+use sa_ast::{Class, ClassKind, Include, ModeTy, Name, Pos, Ty, TypeParam};
 use sqlite_items::Boxed;
 use std::alloc::Global;
 
-/// What names may mean in a class.
+/// What names denote in a class.
 #[derive(Drop)]
 struct NameScope<'a> {
     classes: &'a [Class],
@@ -24,15 +25,15 @@ struct NameScope<'a> {
     params: ParamNames,
 }
 
-/// Where the first type stands in a header or an include clause, in text order and a type before those inside it, whose name
-/// may not stand there.
+/// The position of the first type in a header or an include clause, in source order and a type before those inside it, whose name
+/// isn't allowed there.
 #[tactic(auto, using(crate::proofs::Misuses::firsts), unfolding(crate::specs::Headers::misused_names))]
 pub(crate) fn first_misused(
     alloc: Global,
     classes: &[Class],
     numbers: &ClassNumbers,
     arrays: &[bool],
-) -> Result<Option<Pos>, NoMemory>
+) -> Result<Option<Pos>, Failure>
     requires { HasNumbers classes.now numbers.now }
     ensures { IfOk result (λ pos. pos ≡ first (misused_names classes.now arrays.now)) }
 {
@@ -52,7 +53,7 @@ fn in_one(
     numbers: &ClassNumbers,
     arrays: &[bool],
     class: &Class,
-) -> Result<Option<Pos>, NoMemory>
+) -> Result<Option<Pos>, Failure>
     requires { HasNumbers classes.now numbers.now }
     ensures { IfOk result (λ pos. pos ≡ first (misused_class classes.now arrays.now class.now)) }
 {
@@ -205,7 +206,7 @@ fn in_result(scope: &NameScope<'_>, of: &Option<Boxed<Ty>>) -> Option<Pos>
     }
 }
 
-/// Whether a name with these parameters may stand as a type: alone it may be that of a parameter. Partial classes are no
+/// Whether a name with these parameters is allowed as a type: alone it may be that of a parameter. Partial classes are no
 /// types, nor are those that a parameter hides.
 fn may_occur(scope: &NameScope<'_>, name: &Name, given: &[Ty]) -> bool
     ensures { result ≡ occurs_in scope.now name.now (length given.now == 0) }

@@ -1,4 +1,4 @@
-//! The names of classes, those that may stand in headers and include clauses, and which classes include which.
+//! The names of classes, those that are allowed in headers and include clauses, and the include graph: which classes include which.
 #![tactic(auto)]
 
 mod graph;

@@ -9,12 +9,13 @@ ghost use Rattle.sa_ast.specs.declared.refusal.Refusal.{Refusal};
 ghost use Rattle.sa_include_names.specs.Refusals.{RefusesRepeated};
 ghost use Rattle.sa_include_names.specs.Tables.{HasNumbers, HasParams, hidden_in, number_in};
 
+use failure::{Failure, Invariant};
 use indexmap::{IndexMap, IndexSet};
-use sa_ast::{Class, Name, NoMemory, Rejection, Rule, TypeParam};
+use sa_ast::{Class, Name, Rejection, Rule, TypeParam};
 use sa_graph::word;
 use std::alloc::{AllocError, Global};
 
-/// The number of each class, its place in the program's list, by its name.
+/// The number of each class, its index in the program's list, by its name.
 #[derive(Drop)]
 pub(crate) struct ClassNumbers {
     by_name: IndexMap<Name, u32>,
@@ -32,15 +33,19 @@ impl ClassNumbers {
             by_name: IndexMap::new(alloc),
         };
         for (place, class) in classes.iter().enumerate() {
-            if !numbers.add(alloc, &class.name.name, word(place)?)? {
+            if !numbers.add(
+                alloc,
+                &class.name.name,
+                word(place, Invariant::IncludeTable)?,
+            )? {
                 return Err(Rule::ClassDefinedTwice.at(class.name.pos).into());
             }
         }
         Ok(numbers)
     }
 
-    /// Gives a name its number, and tells whether it had none.
-    fn add(&mut self, alloc: Global, name: &Name, number: u32) -> Result<bool, NoMemory>
+    /// Gives a name its number, and returns whether it had none.
+    fn add(&mut self, alloc: Global, name: &Name, number: u32) -> Result<bool, Failure>
         ensures added { OnOk result (Updates (pointwise nat_eq) self.old.by_name self.new.by_name name.now (Some number)) }
         ensures new { IfOk result (λ new. new ≡ true → number_in self.old name.now ≡ None) }
         ensures old { IfOk result (λ new. new ≡ false → number_in self.old name.now ≢ None) }

@@ -1,4 +1,4 @@
-//! An order in which each class stands behind those that it includes. There is none where a class includes itself, by itself
+//! A topological order, in which each class is after those that it includes. There is none if a class includes itself, by itself
 //! or by others (E15).
 
 ghost use Rattle.std.specs.Prelude.{◌≡◌, ◌≤◌, Err, IfOk, MatchOption, OnOk, count_by};
@@ -14,11 +14,12 @@ ghost use Rattle.sa_include_names.specs.Tables.{CycleAt, HasNumbers, IsNamed, Mi
 use crate::graph::{array_parts, include_graph, is_marked};
 use crate::header::first_misused;
 use crate::names::ClassNumbers;
+use failure::{Failure, Invariant};
 use sa_ast::{Class, Include, Pos, Rejection, Rule, Ty};
 use sa_graph::Graph;
 use std::alloc::Global;
 
-/// Which classes of a program include which. A class has the number of its place in the program's list.
+/// Which classes of a program include which. A class has the number of its index in the program's list.
 #[derive(Drop)]
 pub struct Includes {
     numbers: ClassNumbers,
@@ -32,10 +33,10 @@ impl Includes {
     ///
     /// # Errors
     ///
-    /// E10 at the name of the first class, in text order, whose name an earlier one has; then E12 at the first type in a
-    /// header or an include clause, in text order and a type before those inside it, whose name may not stand there; then
+    /// E10 at the name of the first class, in source order, whose name an earlier one has; then E12 at the first type in a
+    /// header or an include clause, in source order and a type before those inside it, whose name isn't allowed there; then
     /// E15 at the name of the first class, in text order, that includes itself, by itself or by others. `NoMemory` where
-    /// memory runs out.
+    /// memory runs out, and `Broken` where the number of a class isn't below their count, which no program causes.
     #[tactic(auto, using(crate::proofs::Verdicts::verdicts))]
     pub fn new(alloc: Global, classes: &[Class]) -> Result<Includes, Rejection>
         ensures numbers { IfOk result (λ includes. HasNumbers classes.now includes.numbers) }
@@ -55,7 +56,7 @@ impl Includes {
         })
     }
 
-    /// The numbers of all classes, in an order in which each class stands behind those that it includes.
+    /// The numbers of all classes, in an order in which each class is after those that it includes.
     pub fn order(&self) -> &[u32] {
         self.order.as_slice()
     }
@@ -73,7 +74,7 @@ impl Includes {
         }
     }
 
-    /// The place of the second of these include clauses that is of AREF or of a class that reaches it by its includes, if there
+    /// The index of the second of these include clauses that is of AREF or of a class that reaches it by its includes, if there
     /// are two.
     #[tactic(auto, using(crate::proofs::Seconds::seconds))]
     pub fn second_with_array(&self, includes: &[Include]) -> Option<usize>
@@ -103,11 +104,11 @@ impl Includes {
     }
 }
 
-/// Sees that each name in a header or an include clause may stand there.
+/// Checks that each name in a header or an include clause is allowed there.
 ///
 /// # Errors
 ///
-/// E12 at the first type, in text order and before those inside it, whose name may not.
+/// E12 at the first type, in source order and before those inside it, whose name may not.
 #[tactic(auto, using(crate::proofs::Scopes::misused_first))]
 fn names_stand(
     alloc: Global,
@@ -125,18 +126,18 @@ fn names_stand(
     }
 }
 
-/// The refusal of a name that may not stand at this position.
+/// The refusal of a name that isn't allowed at this position.
 fn misused_at(pos: Pos) -> Rejection
     ensures { (refusal : Refusal) → result ≡ Refused refusal → refusal ≡ record { rule = ClassNotUsable; pos = pos } }
 {
     Rule::ClassNotUsable.at(pos).into()
 }
 
-/// The numbers of the classes in an order in which each class stands behind those that it includes.
+/// The numbers of the classes in an order in which each class is after those that it includes.
 ///
 /// # Errors
 ///
-/// E15 at the name of the first class in text order that includes itself, by itself or by others.
+/// E15 at the name of the first class in source order that includes itself, by itself or by others.
 #[tactic(auto, using(crate::proofs::Verdicts::first_named))]
 fn include_order(alloc: Global, classes: &[Class], graph: &Graph) -> Result<Vec<u32>, Rejection>
     ensures none { OnOk result (NoneBefore graph.now (node_count graph.now)) }
@@ -149,12 +150,12 @@ fn include_order(alloc: Global, classes: &[Class], graph: &Graph) -> Result<Vec<
     }
 }
 
-/// The refusal at the name of a class that lies on a cycle.
+/// The refusal at the name of a class on a cycle.
 fn cycle_at(classes: &[Class], number: usize) -> Rejection
     ensures { (refusal : Refusal) → result ≡ Refused refusal → IsNamed classes.now number refusal }
 {
     match classes.get(number) {
         Some(class) => Rule::Cycle.at(class.name.pos).into(),
-        None => Rejection::NoMemory,
+        None => Rejection::Failed(Failure::Broken(Invariant::IncludeTable)),
     }
 }

@@ -1,12 +1,12 @@
-//! Immutable instances that hold themselves through attributes of immutable classes.
+//! Immutable instances that contain themselves through attributes of immutable classes.
 
 use crate::program::Instances;
-use sa_ast::{ClassKind, NoMemory, Rejection, Rule};
+use failure::{Failure, Invariant};
+use sa_ast::{ClassKind, Rejection, Rule};
 use sa_graph::{Graph, word};
 use std::alloc::Global;
 
-/// Refuses with E15 at the name of the class of the first immutable instance that holds itself through attributes of
-/// immutable classes.
+/// Refuses with E15 at the name of the class of the first immutable instance that contains itself through attributes of immutable classes.
 pub(crate) fn check_cycles(alloc: Global, program: &Instances<'_>) -> Result<(), Rejection> {
     let graph = holding(alloc, program)?;
     let order = graph.order(alloc)?;
@@ -19,16 +19,16 @@ pub(crate) fn check_cycles(alloc: Global, program: &Instances<'_>) -> Result<(),
 /// The refusal at the name of the class of a type.
 fn cycle_at(program: &Instances<'_>, ty: usize) -> Rejection {
     let Ok(ty) = u32::try_from(ty) else {
-        return Rejection::NoMemory;
+        return Rejection::Failed(Failure::Broken(Invariant::InstanceTable));
     };
     match program.class(ty) {
-        None => Rejection::NoMemory,
+        None => Rejection::Failed(Failure::Broken(Invariant::InstanceTable)),
         Some(class) => Rule::Cycle.at(class.name.pos).into(),
     }
 }
 
 /// The graph of the immutable instances, each with an edge to those of its attributes.
-fn holding(alloc: Global, program: &Instances<'_>) -> Result<Graph, NoMemory> {
+fn holding(alloc: Global, program: &Instances<'_>) -> Result<Graph, Failure> {
     let mut starts = Vec::new(alloc);
     let mut ends = Vec::new(alloc);
     for ty in 0..program.count() {
@@ -45,8 +45,8 @@ fn add_held(
     ty: u32,
     starts: &mut Vec<u32>,
     ends: &mut Vec<u32>,
-) -> Result<(), NoMemory> {
-    for slot in 0..word(program.slots(ty).len())? {
+) -> Result<(), Failure> {
+    for slot in 0..word(program.slots(ty).len(), Invariant::CheckedCount)? {
         if let Some(to) = immutable_at(program, ty, slot) {
             starts.push(ty)?;
             ends.push(to)?;

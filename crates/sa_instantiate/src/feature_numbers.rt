@@ -1,7 +1,7 @@
 //! The numbers of bodies and shareds, counted over all instances in order.
 
 use crate::type_list::TypeList;
-use sa_ast::{NoMemory, held};
+use failure::{Failure, Invariant, known};
 use sa_graph::word;
 use sqlite_items::Items;
 use std::alloc::Global;
@@ -11,12 +11,15 @@ pub(crate) fn first_bodies(
     alloc: Global,
     list: &TypeList<'_>,
     count: u32,
-) -> Result<Items<u32>, NoMemory> {
+) -> Result<Items<u32>, Failure> {
     let mut firsts = Items::new(alloc);
     let mut first = 0u32;
     for ty in 0..count {
         firsts.push(first)?;
-        first = held(first.checked_add(bodies_of(list, ty)?))?;
+        first = known(
+            first.checked_add(bodies_of(list, ty)?),
+            Invariant::CheckedCount,
+        )?;
     }
     Ok(firsts)
 }
@@ -26,28 +29,31 @@ pub(crate) fn first_shareds(
     alloc: Global,
     list: &TypeList<'_>,
     count: u32,
-) -> Result<Items<u32>, NoMemory> {
+) -> Result<Items<u32>, Failure> {
     let mut firsts = Items::new(alloc);
     let mut first = 0u32;
     for ty in 0..count {
         firsts.push(first)?;
-        first = held(first.checked_add(shareds_of(list, ty)?))?;
+        first = known(
+            first.checked_add(shareds_of(list, ty)?),
+            Invariant::CheckedCount,
+        )?;
     }
     Ok(firsts)
 }
 
 /// How many routines and iters with a body the class of a type has. A bound type has none.
-fn bodies_of(list: &TypeList<'_>, ty: u32) -> Result<u32, NoMemory> {
+fn bodies_of(list: &TypeList<'_>, ty: u32) -> Result<u32, Failure> {
     match list.table(ty) {
         None => Ok(0),
-        Some(table) => word(table.bodies()),
+        Some(table) => word(table.bodies(), Invariant::CheckedCount),
     }
 }
 
 /// How many shareds the class of a type has. A bound type has none.
-fn shareds_of(list: &TypeList<'_>, ty: u32) -> Result<u32, NoMemory> {
+fn shareds_of(list: &TypeList<'_>, ty: u32) -> Result<u32, Failure> {
     match list.table(ty) {
         None => Ok(0),
-        Some(table) => word(table.shareds()),
+        Some(table) => word(table.shareds(), Invariant::CheckedCount),
     }
 }

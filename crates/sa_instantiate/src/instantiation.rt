@@ -1,20 +1,21 @@
-//! The types of an instance put into what its class writes.
+//! Substitution of an instance's types for the parameters in what its class writes.
 
 use crate::type_list::type_args;
-use sa_ast::{NoMemory, Ty, TypeParam};
+use failure::{Failure, limit};
+use sa_ast::{Ty, TypeParam};
+use sa_subst::{Substitution, subst_with};
 use sa_terms::size;
-use sa_types::{Substitution, subst_with};
 use std::alloc::Global;
 
 /// The greatest number of types that the needed instances are made of, counted by place, as many as a source has bytes.
 /// Past it the answer is that memory has run out.
 pub(crate) const MOST_NODES: u64 = 4_194_304;
 
-/// What stands for the parameters of a class and for SAME at an instance.
+/// The substitution at an instance: the types for the parameters of its class and for SAME.
 #[derive(Drop)]
 pub(crate) struct Instantiation<'a> {
     by: Substitution<'a>,
-    /// How many types the instance is made of.
+    /// Of how many types the instance consists.
     size: u64,
 }
 
@@ -23,7 +24,7 @@ impl<'a> Instantiation<'a> {
         alloc: Global,
         params: &[TypeParam],
         own: &'a Ty,
-    ) -> Result<Instantiation<'a>, NoMemory> {
+    ) -> Result<Instantiation<'a>, Failure> {
         let by = Substitution::make(alloc, params, type_args(own), own)?;
         Ok(Instantiation {
             by,
@@ -33,9 +34,9 @@ impl<'a> Instantiation<'a> {
 
     /// What a written type is at the instance. Where it may be made of more types than a program's types may be, the answer
     /// is that memory has run out.
-    pub(crate) fn put_into(&self, alloc: Global, written: &Ty) -> Result<Ty, NoMemory> {
+    pub(crate) fn put_into(&self, alloc: Global, written: &Ty) -> Result<Ty, Failure> {
         if size(written).saturating_mul(self.size) > MOST_NODES {
-            return Err(NoMemory);
+            return limit();
         }
         subst_with(alloc, written, &self.by)
     }

@@ -1,5 +1,5 @@
-//! The needed instances of a program, as numbers: which types a program needs, and for each of them its features, its
-//! attributes and the numbers of the types that its class writes.
+//! The instances that a program needs, as numbers: which types they are, and for each of them its features, its attributes and the numbers
+//! of the types that its class writes.
 #![tactic(auto)]
 
 mod cycles;

@@ -1,20 +1,19 @@
 //! The routine that a program runs: the `main` of the class MAIN.
 
-use sa_ast::{
-    Class, ClassKind, Feature, FeatureBody, FlatClass, NoMemory, Pos, Rejection, Rule, Ty,
-};
+use failure::{Failure, Invariant};
+use sa_ast::{Class, ClassKind, Feature, FeatureBody, FlatClass, Pos, Rejection, Rule, Ty};
 use sa_graph::word;
 
-/// The place of `main` among the features of MAIN, which stands at this place among the classes, if there is one.
+/// The index of `main` among the features of MAIN, which is at this index among the classes, if there is one.
 ///
-/// MAIN has to be a reference class without parameters that has exactly one routine `main` without arguments and with no
-/// result or an INT. Else it refuses with E24, at MAIN's name, or at the start of the command's first file without a MAIN.
+/// MAIN has to be a reference class without parameters that has exactly one routine `main` without arguments and with no result or an INT.
+/// Otherwise it is refused with E24, at MAIN's name, or at the start of the command's first file where there is no MAIN.
 pub(crate) fn main_routine(flat: &FlatClass, place: Option<u32>) -> Result<u32, Rejection> {
     let Some(place) = place else {
         return Err(no_main(Pos { file: 1, at: 0 }));
     };
     let Some(class) = flat.classes.get(place as usize) else {
-        return Err(Rejection::NoMemory);
+        return Err(Rejection::Failed(Failure::Broken(Invariant::InstanceTable)));
     };
     if class.kind != ClassKind::Reference || !class.params.is_empty() {
         return Err(no_main(class.name.pos));
@@ -29,13 +28,13 @@ fn no_main(pos: Pos) -> Rejection {
     Rule::NoMain.at(pos).into()
 }
 
-/// The place of the one routine of a class that can be run.
-fn main_of(class: &Class) -> Result<Option<u32>, NoMemory> {
+/// The index of the one routine of a class that can be run.
+fn main_of(class: &Class) -> Result<Option<u32>, Failure> {
     let mut main = None;
     let mut count = 0usize;
     for (place, feature) in class.features.as_slice().iter().enumerate() {
         if can_run(feature) {
-            main = Some(word(place)?);
+            main = Some(word(place, Invariant::CheckedCount)?);
             count = count.saturating_add(1);
         }
     }

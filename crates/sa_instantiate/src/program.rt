@@ -6,15 +6,16 @@ use crate::main_routine::main_routine;
 use crate::signature::signature_of;
 use crate::type_list::{TypeList, type_args};
 use crate::walk::needed_types;
-use sa_ast::{Class, ClassKind, Feature, FlatClass, NoMemory, Rejection, Ty, held};
+use failure::{Failure, Invariant, known};
+use sa_ast::{Class, ClassKind, Feature, FlatClass, Rejection, Ty};
 use sa_graph::word;
+use sa_subst::{Sig, Substitution};
 use sa_subtypes::SubtypeRelation;
 use sa_terms::{MAIN, Member};
-use sa_types::{Sig, Substitution};
 use sqlite_items::Items;
 use std::alloc::Global;
 
-/// The needed instances of a program with their numbers, their classes and the numbers of the types that these write.
+/// The instances that a program needs, with their numbers, their classes and the numbers of the types that these write.
 #[derive(Drop)]
 pub struct Instances<'a> {
     edges: &'a SubtypeRelation,
@@ -29,7 +30,8 @@ pub struct Instances<'a> {
 }
 
 impl<'a> Instances<'a> {
-    /// The needed instances of the flattened classes of a program, in the order of first need, where `edges` are theirs.
+    /// The instances that the flattened classes of a program need, in the order of first need, where `edges` is the subtype relation of the
+    /// classes.
     ///
     /// It refuses with E24 where there is no routine to run; then with E12 (no such class), E13 (number of parameters),
     /// E14 (a bound that isn't met), E52 (too deep) or E51 (too many instances) at the first type in the order of need
@@ -48,17 +50,20 @@ impl<'a> Instances<'a> {
         Ok(program)
     }
 
-    /// The tables over the needed instances, where `main` is the place of the routine that is run among the features of MAIN.
+    /// The tables over the needed instances, where `main` is the index of the routine that is run among the features of MAIN.
     fn of_list(
         alloc: Global,
         list: TypeList<'a>,
         main: u32,
         edges: &'a SubtypeRelation,
-    ) -> Result<Instances<'a>, NoMemory> {
-        let count = word(list.rows.len())?;
+    ) -> Result<Instances<'a>, Failure> {
+        let count = word(list.rows.len(), Invariant::CheckedCount)?;
         let bodies = first_bodies(alloc, &list, count)?;
         let shareds = first_shareds(alloc, &list, count)?;
-        let main = held(body_number(&list, bodies.as_slice(), MAIN, main))?;
+        let main = known(
+            body_number(&list, bodies.as_slice(), MAIN, main),
+            Invariant::InstanceTable,
+        )?;
         Ok(Instances {
             edges,
             list,
@@ -89,7 +94,7 @@ impl<'a> Instances<'a> {
         self.list.class(ty)
     }
 
-    /// What kind of class a type is. A bound type is a reference class.
+    /// The kind of class that a type is. A bound type is a reference class.
     pub fn kind(&self, ty: u32) -> Option<ClassKind> {
         let row = self.list.row(ty)?;
         if row.class.is_none() {
@@ -147,17 +152,17 @@ impl<'a> Instances<'a> {
         }
     }
 
-    /// A member of a type's class by its place.
+    /// A member of a type's class by its index.
     pub fn member(&self, ty: u32, place: u32) -> Option<&Member> {
         self.members(ty).get(place as usize)
     }
 
-    /// A feature of a type's class by its place.
+    /// A feature of a type's class by its index.
     pub fn feature(&self, ty: u32, place: u32) -> Option<&Feature> {
         self.class(ty)?.features.get(place as usize)
     }
 
-    /// The places of the members with a name, in order. A bound type has none.
+    /// The indices of the members with a name, in order. A bound type has none.
     pub fn named(&self, ty: u32, name: &[u8]) -> &[u32] {
         match self.list.table(ty) {
             None => &[],
@@ -165,7 +170,7 @@ impl<'a> Instances<'a> {
         }
     }
 
-    /// The number of the type of an argument of a member, by the argument's place.
+    /// The number of the type of a parameter of a member, by the parameter's index.
     pub fn argument(&self, ty: u32, member: &Member, k: usize) -> Option<u32> {
         self.list.of_term(ty, *member.args.get(k)?)
     }
@@ -175,17 +180,17 @@ impl<'a> Instances<'a> {
         self.list.of_term(ty, member.result?)
     }
 
-    /// The signature of a member: its name, its modes, and its types with the instance's types put in.
-    pub fn signature(&self, alloc: Global, ty: u32, place: u32) -> Result<Sig, NoMemory> {
-        let class = held(self.list.class(ty))?;
-        let member = held(self.member(ty, place))?;
-        let feature = held(self.feature(ty, member.feature))?;
-        let own = held(self.ty(ty))?;
+    /// The signature of a member: its name, its modes, and its types with the instance's types substituted.
+    pub fn signature(&self, alloc: Global, ty: u32, place: u32) -> Result<Sig, Failure> {
+        let class = known(self.list.class(ty), Invariant::InstanceTable)?;
+        let member = known(self.member(ty, place), Invariant::InstanceTable)?;
+        let feature = known(self.feature(ty, member.feature), Invariant::InstanceTable)?;
+        let own = known(self.ty(ty), Invariant::InstanceTable)?;
         let by = Substitution::make(alloc, class.params.as_slice(), type_args(own), own)?;
         signature_of(alloc, feature, member, &by)
     }
 
-    /// The places among the features of the attributes of a type's class, in order.
+    /// The indices among the features of the attributes of a type's class, in order.
     pub fn slots(&self, ty: u32) -> &[u32] {
         match self.list.table(ty) {
             None => &[],
@@ -193,12 +198,12 @@ impl<'a> Instances<'a> {
         }
     }
 
-    /// The place among the attributes of a feature.
+    /// The index of a feature among the attributes.
     pub fn slot_of(&self, ty: u32, feature: u32) -> Option<u32> {
         self.list.table(ty)?.slot(feature)
     }
 
-    /// The number of the type of an attribute, by its place among the attributes.
+    /// The number of the type of an attribute, by its index among the attributes.
     pub fn slot_type(&self, ty: u32, slot: u32) -> Option<u32> {
         let term = self.list.table(ty)?.attribute_term(slot)?;
         self.list.of_term(ty, term)
@@ -240,7 +245,7 @@ fn body_number(list: &TypeList<'_>, bodies: &[u32], ty: u32, feature: u32) -> Op
     number_from(bodies, ty, list.table(ty)?.body(feature)?)
 }
 
-/// The number of a feature at this place among those of its sort in a type's class.
+/// The number of a feature at this index among those of its sort in a type's class.
 fn number_from(firsts: &[u32], ty: u32, place: u32) -> Option<u32> {
     firsts.get(ty as usize)?.checked_add(place)
 }

@@ -1,8 +1,9 @@
-//! The signature of a member: its name and modes, and its types with types put in.
+//! The signature of a member: its name and modes, and its types with an instance's types substituted.
 
-use sa_ast::{Feature, FeatureBody, FormalParam, Mode, ModeTy, Name, NoMemory, Ty, held};
+use failure::{Failure, Invariant, known};
+use sa_ast::{Feature, FeatureBody, FormalParam, Mode, ModeTy, Name, Ty};
+use sa_subst::{Sig, Substitution, subst_with};
 use sa_terms::{Accessor, Member};
-use sa_types::{Sig, Substitution, subst_with};
 use sqlite_items::Items;
 use std::alloc::Global;
 
@@ -12,7 +13,7 @@ pub(crate) fn signature_of(
     feature: &Feature,
     member: &Member,
     by: &Substitution<'_>,
-) -> Result<Sig, NoMemory> {
+) -> Result<Sig, Failure> {
     match member.side {
         Accessor::Whole => whole(alloc, feature, by),
         Accessor::Reader => reader(alloc, feature, by),
@@ -20,7 +21,7 @@ pub(crate) fn signature_of(
     }
 }
 
-fn whole(alloc: Global, feature: &Feature, by: &Substitution<'_>) -> Result<Sig, NoMemory> {
+fn whole(alloc: Global, feature: &Feature, by: &Substitution<'_>) -> Result<Sig, Failure> {
     let name = feature.name.name.copy(alloc)?;
     let args = args_of(alloc, feature.formals.as_slice(), by)?;
     let result_ty = whole_result(alloc, feature, by)?;
@@ -31,7 +32,7 @@ fn whole(alloc: Global, feature: &Feature, by: &Substitution<'_>) -> Result<Sig,
     })
 }
 
-fn reader(alloc: Global, feature: &Feature, by: &Substitution<'_>) -> Result<Sig, NoMemory> {
+fn reader(alloc: Global, feature: &Feature, by: &Substitution<'_>) -> Result<Sig, Failure> {
     let name = feature.name.name.copy(alloc)?;
     let result_ty = written_result(alloc, feature, by)?;
     Ok(Sig {
@@ -46,7 +47,7 @@ fn writer(
     feature: &Feature,
     member: &Member,
     by: &Substitution<'_>,
-) -> Result<Sig, NoMemory> {
+) -> Result<Sig, Failure> {
     let name = feature.name.name.copy(alloc)?;
     let args = new_value(alloc, feature, by)?;
     let result_ty = writer_result(alloc, feature, member, by)?;
@@ -61,7 +62,7 @@ fn args_of(
     alloc: Global,
     formals: &[FormalParam],
     by: &Substitution<'_>,
-) -> Result<Items<ModeTy>, NoMemory> {
+) -> Result<Items<ModeTy>, Failure> {
     let mut args = Items::new(alloc);
     for formal in formals {
         let ty = subst_with(alloc, &formal.ty, by)?;
@@ -73,13 +74,16 @@ fn args_of(
     Ok(args)
 }
 
-/// The argument of a writer.
+/// The parameter of a writer.
 fn new_value(
     alloc: Global,
     feature: &Feature,
     by: &Substitution<'_>,
-) -> Result<Items<ModeTy>, NoMemory> {
-    let ty = held(written_result(alloc, feature, by)?)?;
+) -> Result<Items<ModeTy>, Failure> {
+    let ty = known(
+        written_result(alloc, feature, by)?,
+        Invariant::InstanceTable,
+    )?;
     let mut args = Items::new(alloc);
     args.push(ModeTy { mode: Mode::In, ty })?;
     Ok(args)
@@ -89,7 +93,7 @@ fn written_result(
     alloc: Global,
     feature: &Feature,
     by: &Substitution<'_>,
-) -> Result<Option<Ty>, NoMemory> {
+) -> Result<Option<Ty>, Failure> {
     match &feature.result {
         None => Ok(None),
         Some(ty) => Ok(Some(subst_with(alloc, ty, by)?)),
@@ -101,7 +105,7 @@ fn whole_result(
     alloc: Global,
     feature: &Feature,
     by: &Substitution<'_>,
-) -> Result<Option<Ty>, NoMemory> {
+) -> Result<Option<Ty>, Failure> {
     if feature.result.is_none() && is_constant(&feature.part) {
         let name = Name::from_slice(alloc, b"INT")?;
         return Ok(Some(Ty::Named(name, Items::new(alloc), feature.name.pos)));
@@ -122,7 +126,7 @@ fn writer_result(
     feature: &Feature,
     member: &Member,
     by: &Substitution<'_>,
-) -> Result<Option<Ty>, NoMemory> {
+) -> Result<Option<Ty>, Failure> {
     if member.result.is_none() {
         return Ok(None);
     }

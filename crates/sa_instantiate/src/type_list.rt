@@ -1,7 +1,8 @@
 //! The types of a program by number, with the tables of their classes.
 
+use failure::{Failure, Invariant, known};
 use indexmap::IndexSet;
-use sa_ast::{Class, NoMemory, Ty, held};
+use sa_ast::{Class, Ty};
 use sa_graph::word;
 use sa_terms::{ClassTable, INT};
 use sqlite_items::Items;
@@ -11,7 +12,7 @@ use std::alloc::Global;
 #[derive(Drop)]
 pub(crate) struct InstanceRow {
     pub ty: Ty,
-    /// The place of its class among the tables of classes.
+    /// The index of its class's table among the tables of classes.
     pub class: Option<u32>,
 }
 
@@ -20,7 +21,7 @@ pub(crate) struct InstanceRow {
 pub(crate) struct TypeList<'a> {
     classes: Items<ClassTable<'a>>,
     pub(crate) rows: Items<InstanceRow>,
-    /// The types of the rows.
+    /// The types of the rows, each at the index of its row.
     places: IndexSet<Ty>,
     /// By type, the number of the type of each term of its class.
     terms: Items<Items<u32>>,
@@ -60,34 +61,34 @@ impl<'a> TypeList<'a> {
         self.terms.get(ty as usize)?.get(term as usize).copied()
     }
 
-    /// Puts a type that isn't in the list at its end, and gives its number.
+    /// Appends a type that isn't in the list, and gives its number.
     pub(crate) fn add(
         &mut self,
         alloc: Global,
         ty: Ty,
         class: Option<u32>,
-    ) -> Result<u32, NoMemory> {
-        let number = word(self.rows.len())?;
+    ) -> Result<u32, Failure> {
+        let number = word(self.rows.len(), Invariant::CheckedCount)?;
         let copy = ty.copy(alloc)?;
         self.places.insert(ty)?;
         self.rows.push(InstanceRow { ty: copy, class })?;
         Ok(number)
     }
 
-    /// Puts the table of a class at the end of the tables, and gives its place.
-    pub(crate) fn add_table(&mut self, alloc: Global, class: &'a Class) -> Result<u32, NoMemory> {
-        let place = word(self.classes.len())?;
+    /// Appends the table of a class to the tables, and gives its index.
+    pub(crate) fn add_table(&mut self, alloc: Global, class: &'a Class) -> Result<u32, Failure> {
+        let place = word(self.classes.len(), Invariant::CheckedCount)?;
         self.classes.push(ClassTable::make(alloc, class)?)?;
         Ok(place)
     }
 
-    /// Puts the terms of the next type at the end.
-    pub(crate) fn add_terms(&mut self, terms: Items<u32>) -> Result<(), NoMemory> {
+    /// Appends the terms of the next type.
+    pub(crate) fn add_terms(&mut self, terms: Items<u32>) -> Result<(), Failure> {
         self.terms.push(terms)?;
         Ok(())
     }
 
-    /// How many different types the class of a type writes, and one of them by its place.
+    /// How many distinct types the class of a type writes, and one of them by its index.
     pub(crate) fn written(&self, ty: u32) -> usize {
         match self.table(ty) {
             None => 0,
@@ -95,18 +96,18 @@ impl<'a> TypeList<'a> {
         }
     }
 
-    pub(crate) fn written_at(&self, ty: u32, place: usize) -> Result<&'a Ty, NoMemory> {
-        let table = held(self.table(ty))?;
-        held(table.written_at(place))
+    pub(crate) fn written_at(&self, ty: u32, place: usize) -> Result<&'a Ty, Failure> {
+        let table = known(self.table(ty), Invariant::InstanceTable)?;
+        known(table.written_at(place), Invariant::InstanceTable)
     }
 }
 
-/// The terms that stand before the written ones in each class: the class itself, and INT.
-pub(crate) fn first_terms(alloc: Global, ty: u32) -> Result<Items<u32>, NoMemory> {
+/// The terms before the written ones in each class: the class itself, and INT.
+pub(crate) fn first_terms(alloc: Global, ty: u32) -> Result<Items<u32>, Failure> {
     Ok(Items::from_slice(alloc, &[ty, INT])?)
 }
 
-/// The types that stand for the parameters of a class in a type.
+/// The type arguments of a type.
 pub(crate) fn type_args(ty: &Ty) -> &[Ty] {
     match ty {
         Ty::Named(_, args, _) => args.as_slice(),

@@ -1,14 +1,13 @@
-//! The walk that finds the needed instances.
+//! The worklist algorithm that finds the needed instances.
 //!
-//! The list begins with nine types. Then its instances are gone through in order, and each type of an instance that isn't
-//! in the list yet is checked and put at its end.
+//! The list begins with nine types. Then its instances are processed in order, and each type of an instance that isn't in the list yet is
+//! checked and appended.
 
 use crate::instantiation::{Instantiation, MOST_NODES};
 use crate::type_list::{TypeList, first_terms, type_args};
+use failure::{Failure, Invariant, known, limit};
 use indexmap::IndexSet;
-use sa_ast::{
-    Class, ClassKind, FlatClass, Name, NoMemory, Pos, Rejection, Rule, Ty, TypeParam, held,
-};
+use sa_ast::{Class, ClassKind, FlatClass, Name, Pos, Rejection, Rule, Ty, TypeParam};
 use sa_graph::word;
 use sa_subtypes::SubtypeRelation;
 use sa_terms::{DEEPEST, depth, size};
@@ -29,9 +28,9 @@ struct Worklist<'a> {
     flat: &'a FlatClass,
     edges: &'a SubtypeRelation,
     list: TypeList<'a>,
-    /// The classes that have a table, by their places among the program's classes, in the order of the tables.
+    /// The classes that have a table, by their indices among the program's classes, in the order of the tables.
     tabled: IndexSet<u32>,
-    /// How many types the instances so far are made of.
+    /// Of how many types the instances so far consist.
     nodes: u64,
 }
 
@@ -53,14 +52,14 @@ pub(crate) fn needed_types<'a>(
     }
     for ty in 0..MOST_INSTANCES {
         if ty < walk.list.rows.len() {
-            walk.go_through(alloc, word(ty)?)?;
+            walk.go_through(alloc, word(ty, Invariant::CheckedCount)?)?;
         }
     }
     Ok(walk.list)
 }
 
 impl<'a> Worklist<'a> {
-    /// The class with a name, with its place. A partial class is no type.
+    /// The class with a name, with its index. A partial class is no type.
     fn class(&self, name: &[u8]) -> Option<(u32, &'a Class)> {
         let place = self.edges.class_place(name)?;
         let class = self.flat.classes.get(place as usize)?;
@@ -70,7 +69,7 @@ impl<'a> Worklist<'a> {
         Some((place, class))
     }
 
-    /// Puts one of the first types at the end of the list.
+    /// Appends one of the first types to the list.
     fn add_first(&mut self, alloc: Global, name: &[u8]) -> Result<(), Rejection> {
         let Some((place, class)) = self.class(name) else {
             return Err(Rule::ClassNotUsable.at(Pos { file: 0, at: 0 }).into());
@@ -82,10 +81,10 @@ impl<'a> Worklist<'a> {
         Ok(())
     }
 
-    /// The place of the table of a class, which is made where there is none.
-    fn table(&mut self, alloc: Global, place: u32, class: &'a Class) -> Result<u32, NoMemory> {
+    /// The index of the table of a class, which is made where there is none.
+    fn table(&mut self, alloc: Global, place: u32, class: &'a Class) -> Result<u32, Failure> {
         if let Some(table) = self.tabled.get_index_of(&place) {
-            return word(table);
+            return word(table, Invariant::CheckedCount);
         }
         self.tabled.insert(place)?;
         self.list.add_table(alloc, class)
@@ -97,14 +96,16 @@ impl<'a> Worklist<'a> {
             self.list.add_terms(Items::new(alloc))?;
             return Ok(());
         };
-        let own = held(self.list.row(ty))?.ty.copy(alloc)?;
+        let own = known(self.list.row(ty), Invariant::InstanceTable)?
+            .ty
+            .copy(alloc)?;
         let at = Instantiation::of(alloc, class.params.as_slice(), &own)?;
         let terms = self.terms(alloc, ty, class.params.as_slice(), &at)?;
         self.list.add_terms(terms)?;
         Ok(())
     }
 
-    /// The numbers of the types that a type's class with these parameters writes, at an instance of it, with those before them.
+    /// The numbers of the types that a type's class with these parameters writes, at an instance of it, after those of the first terms.
     fn terms(
         &mut self,
         alloc: Global,
@@ -122,7 +123,7 @@ impl<'a> Worklist<'a> {
         Ok(terms)
     }
 
-    /// The number of a needed type, which is put at the end of the list where it isn't there yet.
+    /// The number of a needed type, which is appended to the list where it isn't there yet.
     fn number(&mut self, alloc: Global, ty: Ty) -> Result<u32, Rejection> {
         if let Some(number) = self.list.number(&ty) {
             return Ok(number);
@@ -133,16 +134,15 @@ impl<'a> Worklist<'a> {
         Ok(self.list.add(alloc, ty, table)?)
     }
 
-    fn count_nodes(&mut self, ty: &Ty) -> Result<(), NoMemory> {
+    fn count_nodes(&mut self, ty: &Ty) -> Result<(), Failure> {
         self.nodes = self.nodes.saturating_add(size(ty));
         if self.nodes > MOST_NODES {
-            return Err(NoMemory);
+            return limit();
         }
         Ok(())
     }
 
-    /// The place of the table of a type's class, or the refusal of a type that is no use of a class. A bound type has no
-    /// class.
+    /// The index of the table of a type's class, or the refusal of a type that is no use of a class. A bound type has no class.
     fn usable(&mut self, alloc: Global, ty: &Ty) -> Result<Option<u32>, Rejection> {
         let Ty::Named(name, args, pos) = ty else {
             return Ok(None);
@@ -159,8 +159,8 @@ impl<'a> Worklist<'a> {
         Ok(Some(self.table(alloc, place, class)?))
     }
 
-    /// Whether each type that stands for a parameter is below the parameter's bound.
-    fn meets_bounds(&self, alloc: Global, params: &[TypeParam], ty: &Ty) -> Result<bool, NoMemory> {
+    /// Whether each type argument is a subtype of its parameter's bound.
+    fn meets_bounds(&self, alloc: Global, params: &[TypeParam], ty: &Ty) -> Result<bool, Failure> {
         let at = Instantiation::of(alloc, params, ty)?;
         for (param, arg) in params.iter().zip(type_args(ty)) {
             if !self.meets_bound(alloc, param, arg, &at)? {
@@ -176,7 +176,7 @@ impl<'a> Worklist<'a> {
         param: &TypeParam,
         arg: &Ty,
         at: &Instantiation<'_>,
-    ) -> Result<bool, NoMemory> {
+    ) -> Result<bool, Failure> {
         let Some(bound) = &param.bound else {
             return Ok(true);
         };
@@ -209,7 +209,7 @@ fn check_not_hidden(params: &[TypeParam], written: &Ty) -> Result<(), Rejection>
     }
 }
 
-/// Where a type stands.
+/// The position of a type.
 fn position(ty: &Ty) -> Pos {
     match ty {
         Ty::Named(_, _, pos) => *pos,

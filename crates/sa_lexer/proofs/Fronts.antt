@@ -1,4 +1,4 @@
--- The front of a list whose elements pass a test.
+-- The longest prefix of a list whose elements pass a test.
 use Rattle.std.proofs.Common.{◌≡◌, ℕ, zero, suc, ◌≤◌, Bool, true, false, cond, not, List, [], ◌∷◌, ◌++◌, length, take, drop, Some, refl, sym, ap, ◌∙◌, take-append-drop, arith}
 use Rattle.std.specs.List.{list_all, list_any, prefix_len, take_while, find}
 use Rattle.std.proofs.lemmas.Bool.{and_parts, and_from, or_parts, or_from}
@@ -6,7 +6,7 @@ use Rattle.std.proofs.lemmas.List.Sums.{take_while-cons}
 use Rattle.std.proofs.lemmas.List.Folds.{length-prefix_len}
 
 module _ {X : Type 0} (p : X → Bool) where
-  -- elements that all pass are within the longest front that does
+  -- elements that all pass are within the longest prefix that does
   pub prefix_len-front : (xs ys : List X) → list_all p xs ≡ true → length xs ≤ prefix_len p (xs ++ ys)
   prefix_len-front [] ys all = omega arith
   prefix_len-front (x ∷ xs) ys all =
@@ -14,7 +14,7 @@ module _ {X : Type 0} (p : X → Bool) where
       let rest = prefix_len-front xs ys parts.1 in
       rw parts.0 (omega arith)
 
-  -- and they are that front where the next one fails
+  -- and they are that prefix where the next one fails
   pub prefix_len-exact : (xs : List X) (y : X) (ys : List X) → list_all p xs ≡ true → p y ≡ false → prefix_len p (xs ++ y ∷ ys) ≡ length xs
   prefix_len-exact [] y ys all fails = rw fails
   prefix_len-exact (x ∷ xs) y ys all fails =
@@ -22,7 +22,7 @@ module _ {X : Type 0} (p : X → Bool) where
       let rest = prefix_len-exact xs y ys parts.1 fails in
       rw parts.0 (omega arith)
 
-  -- the longest front that passes does
+  -- the elements of the longest prefix that passes all do
   pub all_pass : (xs : List X) → list_all p (take_while p xs) ≡ true
   all_pass [] = refl
   all_pass (x ∷ xs) = ap (list_all p) (take_while-cons p x xs) ∙ by (p x) refl (all_pass xs)
@@ -40,7 +40,7 @@ module _ {X : Type 0} (p : X → Bool) where
       by true passes same rest = let e : y ≡ x = cc in ap p (sym e) ∙ passes
       by false fails more rest = rest more
 
-  -- a list begins with its longest front that passes
+  -- a list begins with its longest prefix that passes
   pub take_while-split : (xs : List X) → xs ≡ take_while p xs ++ drop (length (take_while p xs)) xs
   take_while-split xs = rw length-prefix_len (sym (take-append-drop (prefix_len p xs) xs))
 

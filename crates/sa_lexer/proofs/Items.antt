@@ -6,7 +6,7 @@ use Rattle.sa_ast.specs.declared.rule.Rule.TheVariants as rule
 use Rattle.sa_lexer.specs.declared.literal.Item.{Item}
 use Rattle.sa_lexer.specs.Literal.{item_at, items_from, following, bytes_of, character_of, character_of_byte}
 
--- no items stand in bytes that belong to the one before
+-- no items are in bytes that belong to the one before
 items_from-none : (n : ℕ) (bs : List ℕ) → length bs ≤ n → items_from n bs ≡ []
 items_from-none n [] h = refl
 items_from-none zero (b ∷ bs) h = absurd (omega arith)
@@ -36,7 +36,7 @@ character_of-more len item [] is positive lt = absurd (omega arith)
 character_of-more len item (b ∷ bs) is positive lt =
     character_of-rest len ((item_at b bs).len - 1) (item_at b bs) bs (omega (arith, ap (λ (i : Item). i.len) is))
 
--- what is read of a text: the bytes so far, and what stands behind the first bytes of its inside
+-- what is read of a text: the bytes so far, and what comes after the bytes of its inside that are read
 abbrev pub with_front : List ℕ → ℕ → Result (List ℕ) ℕ → Result (List ℕ) ℕ
 with_front front at (Ok bytes) = Ok (front ++ bytes)
 with_front front at (Err n) = Err (at + n)
@@ -52,7 +52,7 @@ with_front-none (Err n) = ap Err (omega arith)
 pub ReadSoFar-none : (inside : List ℕ) → ReadSoFar inside [] 0
 ReadSoFar-none inside = record { same = with_front-none (bytes_of (items_from 0 inside)) }
 
--- the items from a place on, where an item stands
+-- the items from a position on, where an item is
 items_from-at : (item : Item) (inside : List ℕ) (at : ℕ) → item ≡ item_at (get_or inside at 0) (drop (at + 1) inside) → 0 < item.len → at < length inside → items_from 0 (drop at inside) ≡ item ∷ items_from 0 (drop (at + item.len) inside)
 items_from-at item inside at is positive lt =
     let next : at + 1 + (item.len - 1) ≡ at + item.len = omega arith in
@@ -68,17 +68,17 @@ module _ (inside front : List ℕ) (at : ℕ) (item : Item) (before : ReadSoFar 
   bytes_of-at : bytes_of (items_from 0 inside) ≡ with_front front at (following item item.byte (bytes_of (items_from 0 (drop (at + item.len) inside))))
   bytes_of-at = before.same ∙ ap (λ (items : List Item). with_front front at (bytes_of items)) (items_from-at item inside at is positive lt)
 
-  -- an item that stands for a byte
+  -- an item that denotes a byte
   pub ReadSoFar-more : (b : ℕ) → item.byte ≡ Some b → ReadSoFar inside (front ++ b ∷ []) (at + item.len)
   ReadSoFar-more b byte = record {
     same = bytes_of-at ∙ ap (λ (o : Option ℕ). with_front front at (following item o (bytes_of (items_from 0 (drop (at + item.len) inside))))) byte ∙ with_front-byte front at b item (bytes_of (items_from 0 (drop (at + item.len) inside)));
   }
 
-  -- an escape that stands for none
+  -- an escape that denotes none
   pub bytes_of-stop : item.byte ≡ None → bytes_of (items_from 0 inside) ≡ Err (at + 0)
   bytes_of-stop byte = bytes_of-at ∙ ap (λ (o : Option ℕ). with_front front at (following item o (bytes_of (items_from 0 (drop (at + item.len) inside))))) byte
 
--- nothing is left
+-- no bytes are left
 pub bytes_of-all : (inside front : List ℕ) (at : ℕ) → ReadSoFar inside front at → length inside ≤ at → bytes_of (items_from 0 inside) ≡ Ok front
 bytes_of-all inside front at before le =
     before.same ∙ ap (λ (l : List ℕ). with_front front at (bytes_of (items_from 0 l))) (drop_of_length-le inside le) ∙ ap Ok (append-nil front)

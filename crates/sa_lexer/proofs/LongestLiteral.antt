@@ -60,7 +60,7 @@ goes_on : (quote : ℕ) (escaped : Bool) (b : ℕ) (bs : List ℕ) (n : ℕ) →
 unfolding inside_len
 goes_on quote escaped b bs n s = rw (s.feed, s.inner, s.next)
 
--- the closing quote stands behind the bytes that are inside, and no line feed does
+-- the closing quote comes after the bytes that are inside, and no line feed does
 record Ends (quote : ℕ) (bs : List ℕ) (n : ℕ) : Type 0 where
   inside : List ℕ
   rest : List ℕ
@@ -100,7 +100,7 @@ item_at-escape : (b : ℕ) (bs : List ℕ) → (b == 0x5C) ≡ true → item_at 
 unfolding item_at
 item_at-escape b bs escape = rw escape
 
--- an item stands for a byte where the items stand for bytes
+-- an item denotes a byte where the items denote bytes
 record Read (byte : Option ℕ) (rest : Result (List ℕ) ℕ) (values : List ℕ) : Type 0 where
   value : ℕ
   more : List ℕ
@@ -190,7 +190,7 @@ small_value value v is = by (nat_le value 255) refl is
     by true small same = (leb-true value 255 small, cc)
     by false large same = cc
 
--- ---- what stands inside a literal
+-- ---- the inside of a literal
 
 as_one : (quote : ℕ) (bs digits rest values more : List ℕ) → bs ≡ digits ++ rest → values ≡ value_of 8 digits ∷ more → Denotes quote (0x5C ∷ digits ++ rest) (value_of 8 digits ∷ more) → Denotes quote (0x5C ∷ bs) values
 as_one quote bs digits rest values more whole all denoted =
@@ -212,7 +212,7 @@ module _ (quote : ℕ) (tail : List ℕ) where
   abbrev Goes : ℕ → Type 0
   Goes fuel = (inside values : List ℕ) → length inside ≤ fuel → IsInside inside → bytes_of (items_from 0 inside) ≡ Ok values → Denotes quote inside values
 
-  -- a byte that stands for itself
+  -- a byte that denotes itself
   occurs-plain : (fuel b : ℕ) (bs values : List ℕ) → Goes fuel → length bs ≤ fuel → IsInside (b ∷ bs) → (b == 0x5C) ≡ false → bytes_of (items_from 0 (b ∷ bs)) ≡ Ok values → Denotes quote (b ∷ bs) values
   occurs-plain fuel b bs values go le inside other is =
       let s = step quote false b (bs ++ quote ∷ tail) (length bs) inside in
@@ -224,7 +224,7 @@ module _ (quote : ℕ) (tail : List ℕ) where
       let here : IsPlain quote b = record { no_quote = eqb-false b quote s.inner; no_escape = eqb-false b 0x5C other; no_line_feed = eqb-false b 0x0A s.feed } in
       subst (Denotes quote (b ∷ bs)) (ap (λ (x : ℕ). x ∷ r.more) same ∙ sym r.all) (plain here rest)
 
-  -- an escape by a name
+  -- an escape by a letter or a sign
   occurs-named : (fuel c : ℕ) (cs values : List ℕ) → Goes fuel → length cs ≤ fuel → IsInside cs → is_octal c ≡ false → bytes_of (items_from 0 (0x5C ∷ c ∷ cs)) ≡ Ok values → Denotes quote (0x5C ∷ c ∷ cs) values
   occurs-named fuel c cs values go le inside other is =
       let item : Item = record { len = 2; byte = named_escape (c ∷ cs) } in
@@ -410,7 +410,7 @@ front_of-character : (bs : List ℕ) → front_of (0x27 ∷ bs) ≡ character_to
 unfolding front_of
 front_of-character bs = refl
 
--- a literal in front of some bytes
+-- a literal before some bytes
 before : (quote : ℕ) (inside following : List ℕ) → (quote ∷ inside ++ quote ∷ []) ++ following ≡ quote ∷ (inside ++ quote ∷ following)
 before quote inside following = ap (λ (l : List ℕ). quote ∷ l) (append_assoc inside (quote ∷ []) following)
 

@@ -42,7 +42,7 @@ is_name-name_at b bs letter =
 name_at-split : (b : ℕ) (bs : List ℕ) → is_ascii_alphabetic b ≡ true → b ∷ bs ≡ name_at (b ∷ bs) ++ drop (length (name_at (b ∷ bs))) (b ∷ bs)
 name_at-split b bs letter = rw (name_at-letter b bs letter) (ap (λ (l : List ℕ). b ∷ l) (take_while-split is_name_byte bs))
 
--- a name at the front is within it
+-- a name at the front is within the name that is found there
 name_at-long : (name following : List ℕ) → is_name name ≡ true → length name ≤ length (name_at (name ++ following))
 name_at-long [] following named = absurd cc
 name_at-long (b ∷ bs) following named =
@@ -187,7 +187,7 @@ class_name_at-none : length (class_name_at []) ≡ 0
 unfolding class_name_at
 class_name_at-none = rw name_at-none
 
--- the front of a name is one, unless it is empty
+-- a prefix of a name is one, unless it is empty
 is_name-take : (n : ℕ) (name : List ℕ) → is_name name ≡ true → 0 < length (take n name) → is_name (take n name) ≡ true
 is_name-take n [] named some = cc
 is_name-take zero (b ∷ bs) named some = absurd (omega arith)

@@ -17,7 +17,7 @@ use Rattle.sa_lexer.specs.TokenRules.{is_numeral, IsPrefix, decimal, hexadecimal
 use Rattle.sa_lexer.proofs.Reach.{IsTokenOf, Reaches, token_of, ok, err}
 use Rattle.sa_lexer.proofs.Fronts.{prefix_len-front, all_pass}
 
--- ---- the prefix that tells the base
+-- ---- the prefix that gives the base
 
 starts_with-split : (xs needle : List ℕ) → starts_with nat_eq xs needle ≡ true → xs ≡ needle ++ drop (length needle) xs
 starts_with-split xs needle starts =
@@ -109,7 +109,7 @@ front_of-digit : (b : ℕ) (bs : List ℕ) → is_digit b 10 ≡ true → front_
 unfolding front_of
 front_of-digit b bs digit = let tests = decimal_digit b digit in rw (tests.0, tests.1)
 
--- a decimal numeral in front of a byte that is no digit behind a `0`
+-- a decimal numeral before a byte that is no digit after a `0`
 alone : (d : ℕ) (ds following : List ℕ) (c : ℕ) (rest : List ℕ) → d ∷ (ds ++ following) ≡ 48 ∷ c ∷ rest → is_digit_or_underscore 10 c ≡ false → list_all (is_digit_or_underscore 10) ds ≡ true → length ds ≡ 0
 alone d [] following c rest same none all = refl
 alone d (e ∷ es) following c rest same none all =

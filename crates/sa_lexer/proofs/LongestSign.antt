@@ -29,7 +29,7 @@ sign_there n bs s at =
     let split : bs ≡ text ++ drop (length text) bs = sym (take-append-drop (length text) bs) ∙ ap (λ (l : List ℕ). l ++ drop (length text) bs) (sym same) in
     token_of (token.Sign s) bs text (drop (length text) bs) n split (sym (eqb-true (length text) n parts.0)) refl
 
--- which sign is found, and that none is that is longer
+-- which sign is found, and that no sign there is longer
 record IsFound (bs : List ℕ) (found : ScannedToken) : Type 0 where
   size : ℕ
   is : Sign

@@ -1,4 +1,4 @@
--- What it is that a token stands at the front of a text, and that a front of it is within the token that is found there.
+-- What it is that a token is at the front of a text, and that a prefix of the text that is a token is within the one found there.
 use Rattle.std.proofs.Common.{◌≡◌, ℕ, ◌≤◌, List, ◌++◌, length, take, Result, Ok, Err, sym, ap, subst, ◌∙◌, length-append, take_at, drop_at, refl, drop, arith}
 use Rattle.sa_lexer.specs.declared.scan_result.ScannedToken.{ScannedToken}
 use Rattle.sa_lexer.specs.declared.scan_result.Fault.{Fault}
@@ -31,6 +31,6 @@ token_of kind text front following len split long matches = record {
   matches = subst (Matches kind) (sym (ap (take len) split ∙ take_at front following len (sym long))) matches;
 }
 
--- what stands behind a front is what is left of the list
+-- what comes after a prefix is the rest of the list
 pub front-split : (xs front following : List ℕ) → xs ≡ front ++ following → xs ≡ front ++ drop (length front) xs
 front-split xs front following split = split ∙ ap (λ (l : List ℕ). front ++ l) (sym (ap (drop (length front)) split ∙ drop_at front following (length front) refl))

@@ -25,7 +25,7 @@ err_same x y e = cc
 ok_err : (x : ScannedToken) (y : Fault) → ok x ≡ err y → ⊥
 ok_err x y e = cc
 
--- one more token behind the others
+-- one more token after the others
 pub Follow-push : (text : List ℕ) (place : ℕ) (tokens : List Token) (token : Token) → Follow text place tokens → IsTokenAt text (gap_end text (end_of place tokens)) token → Follow text place (tokens ++ token ∷ [])
 Follow-push text place [] token follow occurs = (occurs, tt)
 Follow-push text place (first ∷ tokens) token follow occurs = (follow.0, Follow-push text first.end tokens token follow.1 occurs)
@@ -34,7 +34,7 @@ pub end_of-push : (place : ℕ) (tokens : List Token) (token : Token) → end_of
 end_of-push place [] token = refl
 end_of-push place (first ∷ tokens) token = end_of-push first.end tokens token
 
--- two tokens of one place are the same
+-- two tokens at one position are the same
 one_token : (text : List ℕ) (place : ℕ) (t u : Token) → IsTokenAt text place t → IsTokenAt text place u → t ≡ u
 one_token text place t u p q =
     let found : found_as t ≡ found_as u = ok_same (found_as t) (found_as u) (sym p.front ∙ q.front) in
@@ -43,17 +43,17 @@ one_token text place t u p q =
     let ends : t.end ≡ u.end = omega (arith, p.not_empty, q.not_empty) in
     λ i. record { kind = (found i).kind; start = starts i; end = ends i }
 
--- the first tokens of two lists are the same, and the others follow the same place
+-- the first tokens of two lists are the same, and the others follow the same position
 same_first : (text : List ℕ) (place : ℕ) (t u : Token) (us : List Token) → IsTokenAt text (gap_end text place) t → Follow text place (u ∷ us) → (t ≡ u) × Follow text t.end us
 same_first text place t u us p g =
     let same = one_token text (gap_end text place) t u p g.0 in
     (same, subst (λ (token : Token). Follow text token.end us) (sym same) g.1)
 
--- a token stands where bytes are left
+-- a token is only where bytes are left
 not_at_end : (text : List ℕ) (place : ℕ) (t : Token) → IsTokenAt text place t → place ≡ length text → ⊥
 not_at_end text place t p e = omega (arith, p.start, p.not_empty, p.in_text)
 
--- a place doesn't have both a token and a fault
+-- a position doesn't have both a token and a fault
 not_broken : (text : List ℕ) (place : ℕ) (t : Token) (refusal : Refusal) → IsTokenAt text place t → BreaksAt text place refusal → ⊥
 not_broken text place t refusal p b = ok_err _ _ (sym p.front ∙ b.fault)
 

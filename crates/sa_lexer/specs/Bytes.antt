@@ -1,4 +1,4 @@
--- The kinds of bytes that the rules of tokens speak of.
+-- The classes of bytes that the lexical rules name.
 use Rattle.std.specs.Prelude.{ℕ, Bool, false, ◌||◌, ◌==◌, List, [], ◌∷◌}
 use Rattle.std.specs.Char.{is_ascii_alphanumeric}
 

@@ -1,4 +1,4 @@
--- What stands at the front of some bytes.
+-- The token at the front of some bytes.
 use Rattle.std.specs.Prelude.{ℕ, ◌==◌, List, [], ◌∷◌, Result, Ok, Err, if◌then◌else◌}
 use Rattle.std.specs.Char.{is_ascii_alphabetic, is_ascii_digit}
 use Rattle.sa_lexer.specs.declared.scan_result.ScannedToken.{ScannedToken}
@@ -9,7 +9,7 @@ use Rattle.sa_lexer.specs.Number.{number_token}
 use Rattle.sa_lexer.specs.Literal.{character_token, text_token}
 use Rattle.sa_lexer.specs.Sign.{sign_token}
 
--- the longest token at the front, or why there is none. Its first byte tells its kind
+-- the longest token at the front, or why there is none. Its first byte decides its kind
 unfoldable pub front_of : List ℕ → Result ScannedToken Fault
 front_of [] = Err (record { rule = rule.BadByte; offset = 0 })
 front_of (b ∷ bs) =

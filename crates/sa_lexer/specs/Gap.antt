@@ -13,7 +13,7 @@ mark_len (a ∷ b ∷ []) = 0
 abbrev pub opens_comment : ℕ → List ℕ → Bool
 opens_comment b bs = b == 0x2D && begins_with 0x2D bs
 
--- how many bytes of blanks and comments stand at the front, which may be inside a comment already: a comment ends with its line
+-- how many bytes of blanks and comments are at the front, which may be inside a comment already: a comment ends with its line
 abbrev pub gap_len : Bool → List ℕ → ℕ
 gap_len inside [] = 0
 gap_len inside (b ∷ bs) =

@@ -10,7 +10,7 @@ use Rattle.sa_ast.specs.declared.rule.Rule.TheVariants as rule
 use Rattle.sa_lexer.specs.Number.{value_of}
 use Rattle.sa_lexer.specs.declared.literal.Item.{Item}
 
--- how many bytes stand before the closing quote on the line, where the first byte may be escaped by a `\` before it
+-- how many bytes come before the closing quote on the line, where the first byte may be escaped by a `\` before it
 unfoldable pub inside_len : ℕ → Bool → List ℕ → Option ℕ
 inside_len quote escaped [] = None
 inside_len quote escaped (b ∷ bs) =
@@ -32,11 +32,11 @@ named_escape (b ∷ bs) =
     else (if b == 0x5C || b == 0x27 || b == 0x22 then Some b
     else None)))))))
 
--- the octal digits of an escape, as many as stand there up to three
+-- the octal digits of an escape, as many as are there up to three
 unfoldable pub octal_digits : List ℕ → List ℕ
 octal_digits bs = take_while (λ b. is_digit b 8) (take 3 bs)
 
--- the escape of a `\` that these bytes follow. It stands for no byte where there is no such escape
+-- the escape of a `\` that these bytes follow. It denotes no byte where there is no such escape
 unfoldable pub escape_at : List ℕ → Item
 escape_at bs =
     let digits = octal_digits bs in
@@ -55,7 +55,7 @@ items_from before [] = []
 items_from (suc n) (b ∷ bs) = items_from n bs
 items_from zero (b ∷ bs) = let item = item_at b bs in item ∷ items_from (item.len - 1) bs
 
--- a character of the byte that its item stands for
+-- a character of the byte that its item denotes
 abbrev pub character_of_byte : ℕ → Option ℕ → Result ScannedToken Fault
 character_of_byte len (Some b) = Ok (record { kind = Char b; len = len })
 character_of_byte len None = Err (record { rule = rule.UnknownEscape; offset = 1 })
@@ -75,18 +75,18 @@ character_up_to bs None = Err (record { rule = rule.LiteralNotEnded; offset = 0 
 unfoldable pub character_token : List ℕ → Result ScannedToken Fault
 character_token bs = character_up_to bs (inside_len 0x27 false bs)
 
--- the byte of an item in front of the others, or the first escape that stands for none
+-- the byte of an item before the others, or the first escape that denotes none
 abbrev pub following : Item → Option ℕ → Result (List ℕ) ℕ → Result (List ℕ) ℕ
 following item None bytes = Err 0
 following item (Some b) (Ok bytes) = Ok (b ∷ bytes)
 following item (Some b) (Err n) = Err (item.len + n)
 
--- the bytes that the items stand for, or how many bytes stand before the first item that stands for none
+-- the bytes that the items denote, or how many bytes come before the first item that denotes none
 abbrev pub bytes_of : List Item → Result (List ℕ) ℕ
 bytes_of [] = Ok []
 bytes_of (item ∷ items) = following item item.byte (bytes_of items)
 
--- a text of these bytes, or the fault of its escape: the opening quote stands before them
+-- a text of these bytes, or the fault of its escape: the opening quote comes before them
 abbrev pub text_of : ℕ → Result (List ℕ) ℕ → Result ScannedToken Fault
 text_of len (Ok bytes) = Ok (record { kind = Text bytes; len = len })
 text_of len (Err n) = Err (record { rule = rule.UnknownEscape; offset = 1 + n })

@@ -29,7 +29,7 @@ word_or kind None = kind
 unfoldable pub kind_of_name : List ℕ → TokenKind
 kind_of_name name = word_or (if has_lower name then token.Lower else token.ClassName) (word_spelled name)
 
--- a name with a lower-case letter, and `!` directly behind it: no such name is a word
+-- a name with a lower-case letter, and `!` directly after it: no such name is a word
 abbrev pub is_iter_name : List ℕ → List ℕ → Bool
 is_iter_name name following = begins_with 0x21 following && has_lower name
 
@@ -45,7 +45,7 @@ name_token bs =
 unfoldable pub class_name_at : List ℕ → List ℕ
 class_name_at bs = take_while (λ b. not (is_ascii_lowercase b)) (name_at bs)
 
--- the token of a `$`, of which the bytes behind it are given: it stands directly before a class's name
+-- the token of a `$`, of which the bytes after it are given: it comes directly before a class's name
 unfoldable pub abstract_token : List ℕ → Result ScannedToken Fault
 abstract_token bs =
     let name = class_name_at bs in

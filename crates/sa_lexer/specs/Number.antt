@@ -8,7 +8,7 @@ use Rattle.sa_lexer.specs.declared.scan_result.ScannedToken.{ScannedToken}
 use Rattle.sa_lexer.specs.declared.scan_result.Fault.{Fault}
 use Rattle.sa_ast.specs.declared.rule.Rule.TheVariants as rule
 
--- the base that the prefix tells: `0x`, `0o`, `0b`, or none for decimal digits
+-- the base by the prefix: `0x`, `0o`, `0b`, or none for decimal digits
 abbrev pub base_of : List ℕ → ℕ
 base_of bs =
     if starts_with nat_eq bs (codes "0x") then 16
@@ -38,7 +38,7 @@ abbrev pub goes_on : List ℕ → Bool
 goes_on [] = false
 goes_on (b ∷ bs) = is_ascii_alphanumeric b || (b == 0x2E && begins_with_digit 10 bs)
 
--- a number of this value and length, behind which these bytes stand. A value that is too large is told first
+-- a number of this value and length, which these bytes follow. A value that is too large is reported first
 abbrev pub number_of : ℕ → ℕ → List ℕ → Result ScannedToken Fault
 number_of value len rest =
     if nat_le (2 ^ 31) value then Err (record { rule = rule.NumberTooLarge; offset = 0 })

@@ -9,7 +9,7 @@ use Rattle.sa_lexer.specs.declared.scan_result.Fault.{Fault}
 use Rattle.sa_ast.specs.declared.rule.Rule.TheVariants as rule
 use Rattle.sa_lexer.specs.Signs.{sign_text, signs}
 
--- the sign of n bytes that stands at the front
+-- the sign of n bytes that is at the front
 abbrev pub sign_at : ℕ → List ℕ → Option Sign
 sign_at n bs = find (λ (s : Sign). length (sign_text s) == n && starts_with nat_eq bs (sign_text s)) signs
 

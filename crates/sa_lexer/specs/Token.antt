@@ -1,4 +1,4 @@
--- Where a token stands.
+-- The bytes that a token spans.
 use Rattle.std.specs.Prelude.{ℕ, ◌≤◌, List, length}
 use Rattle.sa_lexer.specs.declared.token.Token.{Token}
 

@@ -16,7 +16,7 @@ use Rattle.sa_lexer.specs.Words.{word_text}
 
 -- ---- names
 
--- a letter, and letters, digits and `_` behind it
+-- a letter, and letters, digits and `_` after it
 abbrev pub is_name : List ℕ → Bool
 is_name [] = false
 is_name (b ∷ bs) = is_ascii_alphabetic b && list_all is_name_byte bs
@@ -34,12 +34,12 @@ IsNoWord name = (word : Word) → name ≢ word_text word
 
 -- ---- numbers
 
--- a digit of the base, and digits and `_` behind it
+-- a digit of the base, and digits and `_` after it
 abbrev pub is_numeral : ℕ → List ℕ → Bool
 is_numeral base [] = false
 is_numeral base (d ∷ ds) = is_digit d base && list_all (is_digit_or_underscore base) ds
 
--- what stands before the digits of a base
+-- what comes before the digits of a base
 pub data IsPrefix : ℕ → List ℕ → Type 0 where
   decimal : IsPrefix 10 []
   hexadecimal : IsPrefix 16 (codes "0x")
@@ -59,13 +59,13 @@ pub record IsNumber (value : ℕ) (bytes : List ℕ) : Type 0 where
 
 -- ---- characters and texts
 
--- the byte stands for itself between two quotes
+-- the byte denotes itself between two quotes
 pub record IsPlain (quote byte : ℕ) : Type 0 where
   pub no_quote : byte ≢ quote
   pub no_escape : byte ≢ 0x5C
   pub no_line_feed : byte ≢ 0x0A
 
--- one to three octal digits, as many as stand there, with these bytes behind them
+-- one to three octal digits, as many as are there, with these bytes after them
 pub record IsOctal (digits following : List ℕ) : Type 0 where
   pub some : 0 < length digits
   pub few : length digits ≤ 3
@@ -73,7 +73,7 @@ pub record IsOctal (digits following : List ℕ) : Type 0 where
   pub all : (length digits ≡ 3) ⊎ (begins_with_digit 8 following ≡ false)
   pub small : value_of 8 digits ≤ 255
 
--- the bytes between two quotes, and those that they stand for
+-- the bytes between two quotes, and those that they denote
 pub data Denotes (quote : ℕ) : List ℕ → List ℕ → Type 0 where
   nothing : Denotes quote [] []
   plain : {b : ℕ} {bs values : List ℕ} → IsPlain quote b → Denotes quote bs values → Denotes quote (b ∷ bs) (b ∷ values)
@@ -82,7 +82,7 @@ pub data Denotes (quote : ℕ) : List ℕ → List ℕ → Type 0 where
   numbered : {digits bs values : List ℕ} → IsOctal digits bs → Denotes quote bs values
       → Denotes quote (0x5C ∷ digits ++ bs) (value_of 8 digits ∷ values)
 
--- a literal between these quotes that stands for the bytes
+-- a literal between these quotes that denotes the bytes
 pub record IsLiteral (quote : ℕ) (values bytes : List ℕ) : Type 0 where
   pub inside : List ℕ
   pub spelled : bytes ≡ quote ∷ inside ++ quote ∷ []
@@ -102,7 +102,7 @@ Matches (token.Char value) bytes = IsLiteral 0x27 (value ∷ []) bytes
 Matches (token.Text values) bytes = IsLiteral 0x22 values bytes
 Matches (token.Sign sign) bytes = bytes ≡ sign_text sign
 
--- the token is the longest at the front of the text: no front of the text that is a token, of whatever kind, has more bytes
+-- the token is the longest at the front of the text: no prefix of the text that is a token, of whatever kind, has more bytes
 pub record IsLongest (text : List ℕ) (found : ScannedToken) : Type 0 where
   pub in_text : found.len ≤ length text
   pub matches : Matches found.kind (take found.len text)

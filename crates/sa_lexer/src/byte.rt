@@ -1,4 +1,4 @@
-//! The kinds of bytes.
+//! The classes of bytes.
 
 ghost use Rattle.std.specs.Prelude.{◌≡◌};
 ghost use Rattle.std.specs.Char.{digit_value, is_digit};

@@ -5,7 +5,7 @@ ghost use Rattle.sa_lexer.specs.Gap.{gap_len, mark_len};
 
 use crate::byte::{begins_with, is_blank};
 
-/// How many bytes the byte order mark at the front has, which is a blank at the beginning of a text alone.
+/// How many bytes the byte order mark at the front has. It is a blank at the beginning of a text alone.
 pub(crate) fn mark_len(bytes: &[u8]) -> usize
     ensures mark { result ≡ mark_len bytes.now }
     ensures within { result ≤ length bytes.now }
@@ -16,7 +16,7 @@ pub(crate) fn mark_len(bytes: &[u8]) -> usize
     }
 }
 
-/// How many bytes of blanks and comments stand at the front.
+/// How many bytes of blanks and comments are at the front.
 pub(crate) fn gap_len(bytes: &[u8]) -> usize
     ensures gap { result ≡ gap_len false bytes.now }
     ensures within { result ≤ length bytes.now }

@@ -1,4 +1,4 @@
-//! The tokens of a source text.
+//! The lexer: the tokens of a source text.
 #![tactic(auto)]
 
 mod byte;

@@ -14,15 +14,15 @@ use crate::token::TokenKind;
 use sa_ast::{Name, Rule};
 use std::alloc::Global;
 
-/// A byte of a literal or an escape, by its length in bytes and the byte that it stands for. An escape that isn't known
-/// stands for none.
+/// A byte of a literal or an escape, by its length in bytes and the byte that it denotes. An escape that isn't known
+/// denotes none.
 #[derive(Clone, Copy, Debug, PartialEq, Eq)]
 pub(crate) struct Item {
     pub len: usize,
     pub byte: Option<u8>,
 }
 
-/// How many bytes stand before the closing quote on the line.
+/// How many bytes come before the closing quote on the line.
 #[tactic(auto, unfolding(crate::specs::Literal::inside_len))]
 fn inside_len(quote: u8, bytes: &[u8]) -> Option<usize>
     ensures place { result ≡ inside_len quote false bytes.now }
@@ -41,7 +41,7 @@ fn inside_len(quote: u8, bytes: &[u8]) -> Option<usize>
     None
 }
 
-/// What a `\` and the byte at the front stand for.
+/// What a `\` and the byte at the front denote.
 #[tactic(auto, unfolding(crate::specs::Literal::named_escape))]
 fn named_escape(bytes: &[u8]) -> Option<u8>
     ensures { result ≡ named_escape bytes.now }
@@ -59,7 +59,7 @@ fn named_escape(bytes: &[u8]) -> Option<u8>
     }
 }
 
-/// How many octal digits stand at the front.
+/// How many octal digits are at the front.
 fn octal_len(bytes: &[u8]) -> usize
     ensures run { result ≡ prefix_len (λ b. is_digit b 8) bytes.now }
     ensures within { result ≤ length bytes.now }

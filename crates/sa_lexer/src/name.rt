@@ -15,7 +15,7 @@ use crate::token::TokenKind;
 use crate::word::{WORDS, Word};
 use sa_ast::Rule;
 
-/// How many letters, digits and `_` stand at the front.
+/// How many letters, digits and `_` are at the front.
 fn run_len(bytes: &[u8]) -> usize
     ensures run { result ≡ prefix_len is_name_byte bytes.now }
     ensures within { result ≤ length bytes.now }
@@ -36,7 +36,7 @@ fn name_at(bytes: &[u8]) -> &[u8]
     }
 }
 
-/// How many bytes stand before the first lower-case letter.
+/// How many bytes come before the first lower-case letter.
 fn capitals_len(name: &[u8]) -> usize
     ensures capitals { result ≡ prefix_len (λ b. not (is_ascii_lowercase b)) name.now }
     ensures within { result ≤ length name.now }
@@ -80,7 +80,7 @@ fn kind_of_name(name: &[u8]) -> TokenKind
     }
 }
 
-/// A name with a lower-case letter, and `!` directly behind it.
+/// Whether it is a name with a lower-case letter, and `!` comes directly after it.
 fn is_iter_name(name: &[u8], following: &[u8]) -> bool
     ensures test { result ≡ is_iter_name name.now following.now }
     ensures more { IsTrue result → 0 < length following.now }

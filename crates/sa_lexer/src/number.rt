@@ -13,7 +13,7 @@ use sa_ast::Rule;
 /// The largest number.
 const MAX: u64 = 2147483647;
 
-/// The base that the prefix tells.
+/// The base, by the prefix.
 fn base_of(bytes: &[u8]) -> u32
     ensures { result ≡ base_of bytes.now }
 {
@@ -25,7 +25,7 @@ fn base_of(bytes: &[u8]) -> u32
     }
 }
 
-/// How many digits and `_` stand at the front.
+/// How many digits and `_` are at the front.
 fn digits_len(base: u32, bytes: &[u8]) -> usize
     ensures run { result ≡ prefix_len (is_digit_or_underscore base) bytes.now }
     ensures within { result ≤ length bytes.now }
@@ -36,7 +36,7 @@ fn digits_len(base: u32, bytes: &[u8]) -> usize
         .count()
 }
 
-/// The value of the digits of a base, or any number above `MAX` where it is above. Other bytes count nothing.
+/// The value of the digits in the base, or any number greater than `MAX` where the value is greater. Other bytes count nothing.
 pub(crate) fn value_of(base: u32, digits: &[u8]) -> u64
     requires { base ≤ 16 }
     ensures exact { result ≤ MAX → result ≡ value_of base digits.now }
@@ -61,7 +61,7 @@ fn begins_with_digit(base: u32, bytes: &[u8]) -> bool
     }
 }
 
-/// A letter, a digit, or `.` and a digit stand at the front.
+/// Whether a letter, a digit, or `.` and a digit are at the front.
 fn goes_on(bytes: &[u8]) -> bool
     ensures { result ≡ goes_on bytes.now }
 {

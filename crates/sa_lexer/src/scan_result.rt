@@ -1,4 +1,4 @@
-//! What is found at a place of a text: a token, or the rule that is broken there.
+//! What is found at a position of a text: a token, or the rule that is broken there.
 
 ghost use Rattle.std.specs.Prelude.{◌≡◌};
 ghost use Rattle.sa_lexer.specs.declared.scan_result.Stop.TheVariants.{Broken, NoMemory};
@@ -14,7 +14,7 @@ pub(crate) struct ScannedToken {
     pub len: usize,
 }
 
-/// Why no token stands at a place: the rule that is broken, and the bytes from the place to the fault.
+/// Why there is no token at a position: the rule that is broken, and the number of bytes from the position to the fault.
 #[derive(Clone, Copy, Debug, PartialEq, Eq)]
 pub(crate) struct Fault {
     pub rule: Rule,
@@ -22,7 +22,7 @@ pub(crate) struct Fault {
 }
 
 impl Fault {
-    /// A rule that is broken at the place itself.
+    /// A rule that is broken at the position itself.
     pub(crate) fn at_front(rule: Rule) -> Fault
         ensures { result ≡ record { rule = rule; offset = 0 } }
     {

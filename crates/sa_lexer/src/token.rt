@@ -1,4 +1,4 @@
-//! What a token is, and the bytes that it spans.
+//! The kinds of tokens, and the bytes that a token spans.
 
 ghost use Rattle.std.specs.Prelude.{◌≡◌, slice_range};
 ghost use Rattle.sa_lexer.specs.Token.{IsWithin};
@@ -7,10 +7,10 @@ use crate::sign::Sign;
 use crate::word::Word;
 use sa_ast::Name;
 
-/// What a token is.
+/// The kind of a token, with the value of a number or a literal.
 #[derive(Debug, Drop)]
 pub enum TokenKind {
-    /// A word.
+    /// A word of the language.
     Word(Word),
     /// A name without a lower-case letter that is no word.
     ClassName,
@@ -22,9 +22,9 @@ pub enum TokenKind {
     IterName,
     /// A number, by its value: at most 2147483647.
     Int(u32),
-    /// A character literal, by the byte that it stands for.
+    /// A character literal, by the byte that it denotes.
     Char(u8),
-    /// A text literal, by the bytes that it stands for.
+    /// A text literal, by the bytes that it denotes.
     Text(Name),
     /// A sign.
     Sign(Sign),

@@ -1,4 +1,4 @@
--- The variables that an iter keeps while it is suspended.
+-- The variables of an iter that are saved while it is suspended.
 use Rattle.std.specs.Prelude.{◌≡◌, ℕ, ◌<◌, ◌⊎◌, Bool, true, false, IsTrue, if◌then◌else◌, List}
 use Rattle.std.specs.Prelude.{[], ◌∷◌, ◌++◌, Option, Some, None, slice_get, Contains, filter_map}
 use Rattle.sa_ast.specs.declared.ty.Mode.{Mode}
@@ -17,12 +17,12 @@ use Rattle.sa_cfg.specs.declared.operation.CfgOperation.TheVariants.{Bind, HasIn
 
 -- ---- arguments
 
--- by a call or a start
+-- whether a call or a start passes a value for it
 abbrev pub is_passed : Mode → Bool
 is_passed mode.Out = false
 is_passed _ = true
 
--- by a resumption
+-- whether a resumption passes a value for it
 abbrev pub is_passed_on_resume : Mode → Bool
 is_passed_on_resume mode.In = true
 is_passed_on_resume mode.Inout = true
@@ -50,7 +50,7 @@ abbrev pub one_or_none : Option ℕ → List ℕ
 one_or_none None = []
 one_or_none (Some v) = v ∷ []
 
--- ---- steps
+-- ---- operations
 
 abbrev pub read_by : CfgOperation → List ℕ
 read_by (Move to from) = from ∷ []
@@ -75,7 +75,7 @@ read_by _ = []
 abbrev pub set_by_raise : Handler → List ℕ
 set_by_raise to = to.value ∷ to.place ∷ to.kind ∷ []
 
--- a start and a resumption don't count for their arguments: where the instance ends, nothing is copied back
+-- a start and a resumption don't count for their arguments: where the instance ends, nothing is copied out
 abbrev pub set_by : CfgOperation → List ℕ
 set_by (Const to value) = to ∷ []
 set_by (Move to from) = to ∷ []
@@ -97,7 +97,7 @@ set_by (Enter body recv args value quit) = quit ∷ one_or_none value
 set_by (SetException value place to) = set_by_raise to
 set_by _ = []
 
--- where a fault or a raise of a step goes
+-- the handler to which a fault or a raise of an operation goes
 abbrev pub raised_by : CfgOperation → Option Handler
 raised_by (New to ty fail) = Some fail.raised
 raised_by (NewArray to ty count fail) = Some fail.raised
@@ -110,7 +110,7 @@ raised_by (Start site plan quit) = Some plan.fail.raised
 raised_by (Resume site plan quit) = Some plan.fail.raised
 raised_by _ = None
 
--- ---- exits
+-- ---- terminators
 
 abbrev pub IsReadBy : CfgBody → Terminator → ℕ → Type 0
 IsReadBy b (Branch test first second) v = v ≡ test
@@ -126,20 +126,20 @@ next_of (Branch test first second) = first ∷ second ∷ []
 next_of (Fault kind fail) = fail.raised.block ∷ []
 next_of _ = []
 
--- the variables that an exit sets
+-- the variables that a terminator sets
 abbrev pub set_by_terminator : Terminator → List ℕ
 set_by_terminator (Fault kind fail) = set_by_raise fail.raised
 set_by_terminator _ = []
 
--- the block in which it goes on behind a suspension
+-- the block in which it goes on after a suspension
 abbrev pub resume_of : Terminator → List ℕ
 resume_of (Suspend value resume) = one_or_none resume
 resume_of _ = []
 
--- ---- ways
+-- ---- paths
 
--- On some way from here, where these steps and this exit come next, the variable is read, and not set before. A raise leaves a
--- block from before what its step sets, and sets variables of its own.
+-- On some path from here, where these operations and this terminator come next, the variable is read, and not set before. A raise leaves a
+-- block before its operation sets anything, and sets variables of its own.
 pub data IsLive (b : CfgBody) (v : ℕ) : List CfgOperation → Terminator → Type 0 where
   read : (step : CfgOperation) (more : List CfgOperation) (exit : Terminator) → Contains (read_by step) v → IsLive b v (step ∷ more) exit
   passed : (step : CfgOperation) (more : List CfgOperation) (exit : Terminator) → ¬ (Contains (set_by step) v) → IsLive b v more exit

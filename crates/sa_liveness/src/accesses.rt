@@ -1,13 +1,14 @@
-//! Which variables steps and exits read and set, and which a suspension hands out and a resumption hands over.
+//! Which variables operations and terminators read and set, and which a suspension copies out and a resumption passes.
 
 use crate::sets::VarSet;
-use sa_ast::{Mode, NoMemory, held};
+use failure::{Failure, Invariant, known};
+use sa_ast::Mode;
 use sa_cfg::{BodyParam, CallOperand, CfgOperation, Terminator};
 
 /// The arguments of a body by what a suspension and a resumption do with them.
 #[derive(Clone, Copy)]
 pub struct PassedVars {
-    /// Those that are copied back where the body is suspended or left: `out` and `inout` ones.
+    /// Those that are copied out where the body is suspended or left: `out` and `inout` ones.
     pub back: VarSet,
     /// Those that a resumption sets: all but the `once` ones.
     pub anew: VarSet,
@@ -15,13 +16,13 @@ pub struct PassedVars {
 
 impl PassedVars {
     /// The arguments of a body, which are its first variables.
-    pub fn of(formals: &[BodyParam]) -> Result<PassedVars, NoMemory> {
+    pub fn of(formals: &[BodyParam]) -> Result<PassedVars, Failure> {
         let mut delivered = PassedVars {
             back: VarSet::NONE,
             anew: VarSet::NONE,
         };
         for (var, formal) in formals.iter().enumerate() {
-            let var = held(u32::try_from(var).ok())?;
+            let var = known(u32::try_from(var).ok(), Invariant::CfgNumber)?;
             delivered = delivered.with(var, formal.mode);
         }
         Ok(delivered)
@@ -40,7 +41,7 @@ impl PassedVars {
         }
     }
 
-    /// With one more argument that is copied back.
+    /// With one more argument that is copied out.
     fn with_back(self, var: u32) -> PassedVars {
         PassedVars {
             back: self.back.with(var),
@@ -49,7 +50,7 @@ impl PassedVars {
     }
 }
 
-/// The variables that a step reads.
+/// The variables that an operation reads.
 pub fn read_by_operation(step: &CfgOperation) -> VarSet {
     match step {
         CfgOperation::Const { .. } => VarSet::NONE,
@@ -83,8 +84,8 @@ pub fn read_by_operation(step: &CfgOperation) -> VarSet {
     }
 }
 
-/// The variables that a step sets where it doesn't raise. A start and a resumption set none of the arguments, since an instance
-/// that ends copies nothing back.
+/// The variables that an operation sets where it doesn't raise. A start and a resumption set none of the arguments, since an instance that
+/// ends copies nothing out.
 pub fn set_by_operation(step: &CfgOperation) -> VarSet {
     match step {
         CfgOperation::Const { to, .. } => VarSet::of(*to),
@@ -113,7 +114,7 @@ pub fn set_by_operation(step: &CfgOperation) -> VarSet {
     }
 }
 
-/// The block to which a fault or a raise of a step goes.
+/// The block to which a fault or a raise of an operation goes.
 pub fn raised_by_operation(step: &CfgOperation) -> Option<u32> {
     match step {
         CfgOperation::New { fail, .. } => Some(fail.raised.block),
@@ -129,7 +130,7 @@ pub fn raised_by_operation(step: &CfgOperation) -> Option<u32> {
     }
 }
 
-/// The variables that an exit reads.
+/// The variables that a terminator reads.
 pub fn read_by_terminator(exit: &Terminator, delivered: PassedVars) -> VarSet {
     match exit {
         Terminator::Jump(_) => VarSet::NONE,

@@ -1,23 +1,24 @@
-//! Which variables are live at the beginning of each block: those that are read on a way from there and not set on it before.
+//! Liveness by dataflow: which variables are live at the beginning of each block, that is, read on a path from there and not set on it
+//! before.
 
 use crate::edges::CfgEdges;
 use crate::sets::VarSet;
-use sa_ast::{NoMemory, held};
+use failure::{Failure, Invariant, known};
 use sa_cfg::FIRST_TEMPORARY;
 use sqlite_items::Items;
 use std::alloc::Global;
 
-/// What is known so far.
+/// The state of the dataflow analysis.
 #[derive(Drop)]
 struct Dataflow {
-    /// For each block the variables that are live at its beginning.
+    /// For each block, the variables that are live at its beginning.
     live: Items<VarSet>,
-    /// The blocks whose set has grown and hasn't been handed to the blocks before them.
+    /// The worklist: the blocks whose set has grown since it was last propagated to their predecessors.
     waiting: Items<u32>,
 }
 
 /// The variables that are live at the beginning of each block.
-pub fn live_at_beginnings(alloc: Global, ways: &CfgEdges) -> Result<Items<VarSet>, NoMemory> {
+pub fn live_at_beginnings(alloc: Global, ways: &CfgEdges) -> Result<Items<VarSet>, Failure> {
     let mut flow = initial_flow(alloc, ways)?;
     for _ in 0..most_takes(ways) {
         let Some(block) = flow.waiting.pop() else {
@@ -35,20 +36,21 @@ fn most_takes(ways: &CfgEdges) -> usize {
 }
 
 /// What each block reads itself is live at its beginning.
-fn initial_flow(alloc: Global, ways: &CfgEdges) -> Result<Dataflow, NoMemory> {
+fn initial_flow(alloc: Global, ways: &CfgEdges) -> Result<Dataflow, Failure> {
     let mut flow = Dataflow {
         live: Items::from_slice(alloc, ways.read.as_slice())?,
         waiting: Items::new(alloc),
     };
     for block in 0..ways.read.len() {
-        flow.waiting.push(held(u32::try_from(block).ok())?)?;
+        flow.waiting
+            .push(known(u32::try_from(block).ok(), Invariant::CfgNumber)?)?;
     }
     Ok(flow)
 }
 
 impl Dataflow {
-    /// What is live at the beginning of a block is live at the beginning of each block before it, unless it is set between.
-    fn propagate(&mut self, ways: &CfgEdges, block: u32) -> Result<(), NoMemory> {
+    /// What is live at the beginning of a block is live at the beginning of each predecessor, unless it is set between.
+    fn propagate(&mut self, ways: &CfgEdges, block: u32) -> Result<(), Failure> {
         let mut next = ways.last_edge_into(block)?;
         for _ in 0..ways.count() {
             let Some(number) = next else {
@@ -59,24 +61,24 @@ impl Dataflow {
         Ok(())
     }
 
-    /// What is live at the beginning of a block is live where a way into it begins, unless it is set on the way. Gives the way
-    /// into the block before this one.
+    /// What is live at the beginning of a block is live where an edge into it begins, unless it is set on the edge. Gives the edge into the
+    /// block that was added before this one.
     fn propagate_edge(
         &mut self,
         ways: &CfgEdges,
         number: u32,
         block: u32,
-    ) -> Result<Option<u32>, NoMemory> {
+    ) -> Result<Option<u32>, Failure> {
         let way = ways.edge(number)?;
-        let live = held(self.live.get(block as usize).copied())?;
+        let live = known(self.live.get(block as usize).copied(), Invariant::CfgNumber)?;
         self.grow(way.from, live.without(way.set))?;
         Ok(way.before)
     }
 
-    /// These variables are live at the beginning of a block.
-    fn grow(&mut self, block: u32, vars: VarSet) -> Result<(), NoMemory> {
+    /// Adds these variables to those that are live at the beginning of a block.
+    fn grow(&mut self, block: u32, vars: VarSet) -> Result<(), Failure> {
         let at = block as usize;
-        let so_far = held(self.live.get(at).copied())?;
+        let so_far = known(self.live.get(at).copied(), Invariant::CfgNumber)?;
         let all = so_far.union(vars);
         if all == so_far || at >= self.live.len() {
             return Ok(());

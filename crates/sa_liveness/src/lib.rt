@@ -1,4 +1,5 @@
-//! The variables of an iter that are kept while it is suspended: those that are read behind a resumption and not set before.
+//! Liveness: the variables of an iter that are saved while it is suspended, which are those that are read after a resumption and not set
+//! before.
 #![tactic(auto)]
 
 mod accesses;

@@ -1,14 +1,14 @@
-//! Sets of the variables that a body has of its own.
+//! Sets of the variables of a body, temporaries not included.
 
-use sa_ast::NoMemory;
+use failure::Failure;
 use sa_cfg::FIRST_TEMPORARY;
 use sqlite_items::Items;
 use std::alloc::Global;
 
-/// How many variables a word tells of.
+/// How many variables a machine word has bits for.
 const IN_A_WORD: u32 = 64;
 
-/// A set of variables below `FIRST_TEMPORARY`: one bit for each.
+/// A set of variables with numbers less than `FIRST_TEMPORARY`: one bit for each.
 #[derive(Clone, Copy, PartialEq, Eq)]
 pub struct VarSet {
     words: [u64; 4],
@@ -68,7 +68,7 @@ impl VarSet {
     }
 
     /// The variables of the set, rising.
-    pub fn rising(&self, alloc: Global) -> Result<Items<u32>, NoMemory> {
+    pub fn rising(&self, alloc: Global) -> Result<Items<u32>, Failure> {
         let mut vars = Items::new(alloc);
         for var in 0..FIRST_TEMPORARY {
             if self.has(var) {

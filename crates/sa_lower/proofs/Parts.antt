@@ -1,4 +1,4 @@
--- What the parts of a well-typed tree have, by the conditions of the tree.
+-- What the parts of a well-typed AST have, by the conditions of the AST.
 use Rattle.std.proofs.Common.{◌≡◌, ℕ, zero, suc, ◌+◌, ◌<◌, inl, inr, true, false, ◌==◌, All, List, [], ◌∷◌, length, get_or}
 use Rattle.std.proofs.Common.{Option, Some, None, option_and_then, is_some, refl, sym, ap, subst, ◌∙◌, true≢false, arith}
 use Rattle.std.specs.Prelude.{IfSome, IsTrue, nat_le}
@@ -47,7 +47,7 @@ module _ (w : Rows) where
   all_few : (list : List TypedFeature) → IsTrue (list_all (well_feature w) list) → All HasFewVariables list
   all_few list well i d within = few_of (get_or list i d) (AllPass-from_list_all (well_feature w) list well i d within)
 
-  -- in a scope that is the feature's
+  -- in an environment that is the feature's
   pub body_there : (f : TypedFeature) (scope : Env) (body : List TypedStmt)
       → scope ≡ feature_env w f → body ≡ f.body → HasWellTypedBody w f → IsTrue (well_stmts scope outside (block_of body))
   unfolding HasWellTypedBody
@@ -78,7 +78,7 @@ module _ (w : Rows) where
   all_start : (list : List TypedShared) → IsTrue (list_all (well_shared w) list) → All (HasWellTypedInitialiser w) list
   all_start list well i d within = starts (get_or list i d) (AllPass-from_list_all (well_shared w) list well i d within)
 
-  -- in a scope that is the initialiser's
+  -- in an environment that is the initialiser's
   pub start_there : (s : TypedShared) (scope : Env) (at : TypingContext) (e : TypedExpr)
       → scope ≡ shared_env w s.class → at ≡ outside → s.start ≡ Some e → HasWellTypedInitialiser w s → HasValue scope at e
   unfolding HasWellTypedInitialiser
@@ -115,7 +115,7 @@ module _ (w : Rows) where
       subst (λ (o : Option (Option CallType)). is_some (option_and_then (λ shape. shape) o) ≡ true) (slice_get-get_or w.shapes i d within)
       (subst IsThere (omega arith) (shape_from 0 w.signatures i well (omega (arith, long, within))))
 
--- ---- the parts of a view of a well-typed tree
+-- ---- the parts of a view of a well-typed AST
 
 module _ (view : TypingView) (core : TypedProgram) (well : IsWellTyped core) (same : rows view ≡ rows_of core) where
   are_well : AreWellTyped (rows view) core.main

@@ -1,4 +1,4 @@
--- What the parts of a well-typed tree have, as lowering reads them.
+-- What the parts of a well-typed AST have, as lowering reads them.
 use Rattle.std.specs.Prelude.{◌≤◌, IfSome, IsTrue, Option, is_some, length}
 use Rattle.sa_typed.specs.declared.feature.TypedFeature.{TypedFeature}
 use Rattle.sa_typed.specs.declared.program.TypedShared.{TypedShared}
@@ -10,7 +10,7 @@ use Rattle.sa_typing.specs.Contexts.{outside}
 use Rattle.sa_typing.specs.Rows.{Rows}
 use Rattle.sa_typing.specs.Statements.{well_stmts}
 
--- a signature has a shape
+-- a signature has a call type
 unfoldable pub HasCallType : Option CallType → Type 0
 HasCallType shape = IsTrue (is_some shape)
 

@@ -1,12 +1,12 @@
-//! The adapter of an implementation of a signature, a body that is made for it alone: it takes the arguments as the signature has
-//! them, calls the implementation with them as that has them, and gives back what the signature gives. Its faults are those of the
-//! call that entered it, so its steps tell no position.
+//! The adapter of an implementation of a signature: it takes the arguments as the signature has them, calls the implementation with them as
+//! that has them, and gives back what the signature gives. Its faults are those of the call that entered it, so its operations report no
+//! position.
 
 use crate::adapter_iter::adapter_iter;
 use crate::arguments::{Arguments, pass_all, widen_back, widened_value};
 use crate::passing::widened_result;
 use crate::signatures::{AdapterCall, formals_of};
-use sa_ast::{NoMemory, held};
+use failure::{Failure, Invariant, known};
 use sa_cfg::{CallOperation, CfgBody, CfgOperation, FaultExit, Terminator};
 use sa_cfg_builder::{BodyBuilder, BodyHeader, LoweringContext};
 use sa_lower_expr::callee_of;
@@ -16,7 +16,7 @@ use sqlite_items::Items;
 use std::alloc::Global;
 
 /// The adapter of an implementation of a signature.
-pub(crate) fn adapter(alloc: Global, implemented: AdapterCall<'_>) -> Result<CfgBody, NoMemory> {
+pub(crate) fn adapter(alloc: Global, implemented: AdapterCall<'_>) -> Result<CfgBody, Failure> {
     let iter = iter_number(implemented);
     let head = head(alloc, iter, implemented.params())?;
     let mut body = BodyBuilder::begin(alloc, head)?;
@@ -27,10 +27,10 @@ pub(crate) fn adapter(alloc: Global, implemented: AdapterCall<'_>) -> Result<Cfg
     body.finish(alloc, Terminator::Return { value })
 }
 
-/// What is known of a body before its blocks, where an iter with this number or something else implements the signature.
-fn head(alloc: Global, iter: Option<u32>, params: &[ParamType]) -> Result<BodyHeader, NoMemory> {
+/// The header of an adapter, where an iter with this index or something else implements the signature.
+fn head(alloc: Global, iter: Option<u32>, params: &[ParamType]) -> Result<BodyHeader, Failure> {
     let formals = formals_of(alloc, params)?;
-    let own = held(u32::try_from(formals.len()).ok())?;
+    let own = known(u32::try_from(formals.len()).ok(), Invariant::CheckedCount)?;
     Ok(BodyHeader {
         feature: None,
         iter: iter.is_some(),
@@ -40,7 +40,7 @@ fn head(alloc: Global, iter: Option<u32>, params: &[ParamType]) -> Result<BodyHe
     })
 }
 
-/// What the steps of a body tell that has no position of its own.
+/// The fault exit of an operation that has no position of its own.
 pub(crate) fn no_position() -> FaultExit {
     FaultExit {
         place: 0,
@@ -58,12 +58,12 @@ fn iter_number(implemented: AdapterCall<'_>) -> Option<u32> {
     }
 }
 
-/// The call with all that is widened before and behind it, and the variable that holds the result of the signature.
+/// The call with all that is boxed before and after it, and the variable that holds the result of the signature.
 fn call(
     alloc: Global,
     implemented: AdapterCall<'_>,
     body: &mut BodyBuilder,
-) -> Result<Option<u32>, NoMemory> {
+) -> Result<Option<u32>, Failure> {
     let recv = receiver(implemented, body)?;
     let Arguments { args, backs } = pass_all(alloc, implemented, body)?;
     let value = value_of(implemented, body)?;
@@ -82,11 +82,11 @@ fn call(
     Ok(value)
 }
 
-/// The variable that holds the receiver as its own class has it.
+/// The variable that holds the receiver, unboxed where its class is immutable.
 pub(crate) fn receiver(
     implemented: AdapterCall<'_>,
     body: &mut BodyBuilder,
-) -> Result<u32, NoMemory> {
+) -> Result<u32, Failure> {
     let me = body.temporary()?;
     body.step(CfgOperation::SelfRef { to: me })?;
     let ty = implemented.implementation.ty;
@@ -102,7 +102,7 @@ pub(crate) fn receiver(
 pub(crate) fn value_of(
     implemented: AdapterCall<'_>,
     body: &mut BodyBuilder,
-) -> Result<Option<u32>, NoMemory> {
+) -> Result<Option<u32>, Failure> {
     match implemented.result() {
         Some(_) => Ok(Some(body.temporary()?)),
         None => Ok(None),

@@ -1,33 +1,33 @@
-//! The adapter of an implementation of a signature by an iter. It is entered for an instance at its start and at
-//! each resumption, and does both by one step. The receiver and the `once` arguments are handed over at a start alone, so
-//! they are unwrapped and widened there alone.
+//! The adapter of an implementation of a signature by an iter. It is entered for an instance at its start and at each resumption, and does
+//! both by one operation. The receiver and the `once` arguments are passed at a start alone, so they are unboxed and boxed there alone.
 
 use crate::adapter::{receiver, value_of};
 use crate::arguments::{Arguments, pass, widen_back, widened, widened_value};
 use crate::passing::{ArgConversion, passing_of, widened_result};
 use crate::signatures::AdapterCall;
-use sa_ast::{Mode, NoMemory, held};
+use failure::{Failure, Invariant, known};
+use sa_ast::Mode;
 use sa_cfg::{CallOperand, CfgBody, CfgOperation, Terminator};
 use sa_cfg_builder::BodyBuilder;
 use sa_typing::ParamType;
 use sqlite_items::Items;
 use std::alloc::Global;
 
-/// What is there of a start: the variable that holds the receiver as its own class has it, and for each argument the variable
-/// that stands for it, widened where it is a `once` one.
+/// What a start has prepared: the variable that holds the receiver as its own class has it, and for each argument the variable that is
+/// passed for it, boxed where it is a `once` one.
 #[derive(Drop)]
 struct StartedAdapter {
     recv: u32,
     vars: Items<u32>,
 }
 
-/// The adapter of an implementation by the iter with this number, a body that has begun.
+/// The adapter of an implementation by the iter with this index, in a body that has begun.
 pub(crate) fn adapter_iter(
     alloc: Global,
     implemented: AdapterCall<'_>,
     iter: u32,
     body: &mut BodyBuilder,
-) -> Result<CfgBody, NoMemory> {
+) -> Result<CfgBody, Failure> {
     let begun = begin(alloc, implemented, body)?;
     let passed = pass_all(alloc, implemented, &begun, body)?;
     let Arguments { args, backs } = passed;
@@ -50,12 +50,12 @@ pub(crate) fn adapter_iter(
     body.finish(alloc, exit)
 }
 
-/// Takes what a start hands over. The block in which a start and a resumption go on is open afterwards.
+/// Takes what a start passes. The block in which a start and a resumption go on is open afterwards.
 fn begin(
     alloc: Global,
     implemented: AdapterCall<'_>,
     body: &mut BodyBuilder,
-) -> Result<StartedAdapter, NoMemory> {
+) -> Result<StartedAdapter, Failure> {
     let test = body.temporary()?;
     body.step(CfgOperation::HasFrame { to: test })?;
     let fresh = body.block(alloc)?;
@@ -77,7 +77,7 @@ fn once_arguments(
     alloc: Global,
     implemented: AdapterCall<'_>,
     body: &mut BodyBuilder,
-) -> Result<Items<u32>, NoMemory> {
+) -> Result<Items<u32>, Failure> {
     let mut vars = Items::new(alloc);
     for (place, param) in implemented.params().iter().enumerate() {
         vars.push(once_argument(implemented, place, *param, body)?)?;
@@ -85,14 +85,14 @@ fn once_arguments(
     Ok(vars)
 }
 
-/// The variable of the argument at this place.
+/// The variable of the argument at this index.
 fn once_argument(
     implemented: AdapterCall<'_>,
     place: usize,
     param: ParamType,
     body: &mut BodyBuilder,
-) -> Result<u32, NoMemory> {
-    let var = held(u32::try_from(place).ok())?;
+) -> Result<u32, Failure> {
+    let var = known(u32::try_from(place).ok(), Invariant::CheckedCount)?;
     if param.mode != Mode::Once {
         return Ok(var);
     }
@@ -102,13 +102,13 @@ fn once_argument(
     }
 }
 
-/// The arguments as the iter takes them. Those that aren't `once` are taken anew.
+/// The arguments as the iter takes them. Those that aren't `once` are boxed anew.
 fn pass_all(
     alloc: Global,
     implemented: AdapterCall<'_>,
     begun: &StartedAdapter,
     body: &mut BodyBuilder,
-) -> Result<Arguments, NoMemory> {
+) -> Result<Arguments, Failure> {
     let mut passed = Arguments::none(alloc);
     let vars = begun.vars.as_slice();
     for (place, (param, var)) in implemented.params().iter().zip(vars.iter()).enumerate() {
@@ -121,8 +121,8 @@ fn pass_all(
     Ok(passed)
 }
 
-/// One more argument, which was taken at the start.
-fn pass_begun(var: u32, passed: &mut Arguments) -> Result<(), NoMemory> {
+/// One more argument, which was prepared at the start.
+fn pass_begun(var: u32, passed: &mut Arguments) -> Result<(), Failure> {
     passed.args.push(CallOperand {
         mode: Mode::Once,
         var: Some(var),
@@ -131,7 +131,7 @@ fn pass_begun(var: u32, passed: &mut Arguments) -> Result<(), NoMemory> {
 }
 
 /// Ends the instance where the iter has ended. The block where it has yielded is open afterwards.
-fn end_or_go_on(alloc: Global, body: &mut BodyBuilder, quit: u32) -> Result<(), NoMemory> {
+fn end_or_go_on(alloc: Global, body: &mut BodyBuilder, quit: u32) -> Result<(), Failure> {
     let ended = body.block(alloc)?;
     let yielded = body.block(alloc)?;
     let branch = Terminator::Branch {

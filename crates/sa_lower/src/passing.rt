@@ -1,23 +1,23 @@
-//! What is widened between a signature and an implementation of it: an immutable value that goes in where the implementation
-//! has an abstract type, and one that comes out where the signature has one.
+//! What is boxed between a signature and an implementation of it: an immutable value that goes in where the implementation has an abstract
+//! type, and one that comes out where the signature has one.
 
 use crate::signatures::AdapterCall;
 use sa_ast::Mode;
 use sa_lower_expr::takes_abstract;
 use sa_typing::{ParamType, TypingView};
 
-/// What is done with an argument between a signature and an implementation.
+/// How an argument is converted between a signature and an implementation.
 #[derive(Clone, Copy, Debug, PartialEq, Eq)]
 pub(crate) enum ArgConversion {
     /// It is passed as it is.
     Plain,
-    /// It is a value of this immutable class and is widened before the call.
+    /// It is a value of this immutable class and is boxed before the call.
     WidenedIn(u32),
-    /// It is copied back as a value of this immutable class and is widened behind the call.
+    /// It is copied out as a value of this immutable class and is boxed after the call.
     WidenedOut(u32),
 }
 
-/// What is done with the argument at a place, where the signature has this parameter.
+/// How the argument at an index is converted, where the signature has this parameter.
 pub(crate) fn passing_of(
     implemented: AdapterCall<'_>,
     place: usize,
@@ -52,7 +52,7 @@ fn passing_out(implemented: AdapterCall<'_>, place: usize, ty: u32) -> ArgConver
     }
 }
 
-/// The immutable class of which an implementation gives a value that has to be widened to the result of the signature.
+/// The immutable class of which an implementation gives a value that has to be boxed for the result of the signature.
 pub(crate) fn widened_result(implemented: AdapterCall<'_>) -> Option<u32> {
     match (implemented.result(), implemented.shape.result) {
         (Some(own), Some(ty)) if is_widened(implemented.view, own, ty) => Some(own),
@@ -60,7 +60,7 @@ pub(crate) fn widened_result(implemented: AdapterCall<'_>) -> Option<u32> {
     }
 }
 
-/// Whether a value of the first type is widened to be one of the other.
+/// Whether a value of the first type is boxed to be one of the other.
 fn is_widened(view: &TypingView<'_>, own: u32, ty: u32) -> bool {
     view.is_abstract(ty) && view.is_immutable(own)
 }

@@ -6,7 +6,7 @@ ghost use Rattle.sa_lower.specs.TypedParts.{HasWellTypedInitialiser};
 ghost use Rattle.sa_typing.specs.Rows.{rows};
 
 use crate::adapter::no_position;
-use sa_ast::{NoMemory, held};
+use failure::{Failure, Invariant, known};
 use sa_cfg::{CallOperation, CallTarget, CfgBody, CfgOperation, Constant, Terminator};
 use sa_cfg_builder::{BodyBuilder, BodyHeader, LoweringContext, ProgramBuilder};
 use sa_lower_expr::{Owner, lower_expr};
@@ -15,19 +15,19 @@ use sa_typing::{TypingView, env_of_initialiser};
 use sqlite_items::Items;
 use std::alloc::Global;
 
-/// The body that a run begins with, where the feature with this number is `main`.
+/// The body that a run begins with, where the feature with this index is `main`.
 pub(crate) fn run_body(
     alloc: Global,
     view: &TypingView<'_>,
     main: u32,
     draft: &mut ProgramBuilder,
-) -> Result<CfgBody, NoMemory>
+) -> Result<CfgBody, Failure>
     requires main { main < length view.now.features.now }
     requires starts { All (HasWellTypedInitialiser (rows view.now)) view.now.shareds.now }
 {
     draft.begin(alloc, head(alloc))?;
     for (number, shared) in view.shareds.iter().enumerate() {
-        let number = held(u32::try_from(number).ok())?;
+        let number = known(u32::try_from(number).ok(), Invariant::CheckedCount)?;
         initialise(alloc, view, number, shared, draft)?;
     }
     let feature = &view.features[main as usize];
@@ -35,7 +35,7 @@ pub(crate) fn run_body(
     draft.body.finish(alloc, Terminator::Return { value })
 }
 
-/// What is known of the body before its blocks.
+/// The header of the body.
 fn head(alloc: Global) -> BodyHeader {
     BodyHeader {
         feature: None,
@@ -46,14 +46,14 @@ fn head(alloc: Global) -> BodyHeader {
     }
 }
 
-/// A shared gets the value of its initialiser, where it has one.
+/// Sets a shared to the value of its initialiser, where it has one.
 fn initialise(
     alloc: Global,
     view: &TypingView<'_>,
     number: u32,
     shared: &TypedShared,
     draft: &mut ProgramBuilder,
-) -> Result<(), NoMemory>
+) -> Result<(), Failure>
     requires { HasWellTypedInitialiser (rows view.now) shared.now }
 {
     let Some(start) = &shared.start else {
@@ -70,13 +70,13 @@ fn initialise(
     })
 }
 
-/// Calls `main`, the feature with this number, with a void self, and gives the variable that holds its result, if it has one.
+/// Calls `main`, the feature with this index, with a void self, and gives the variable that holds its result, if it has one.
 fn call_main(
     alloc: Global,
     number: u32,
     main: &TypedFeature,
     body: &mut BodyBuilder,
-) -> Result<Option<u32>, NoMemory> {
+) -> Result<Option<u32>, Failure> {
     body.statement(&LoweringContext::of_body());
     let recv = body.temporary()?;
     body.step(CfgOperation::Const {

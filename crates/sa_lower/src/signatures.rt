@@ -1,6 +1,6 @@
 //! An implementation of a signature, and the arguments that its adapter has.
 
-use sa_ast::NoMemory;
+use failure::Failure;
 use sa_cfg::BodyParam;
 use sa_typed::TypedImplementation;
 use sa_typing::{CallType, ParamType, TypingView, target_parameter, target_result};
@@ -21,7 +21,7 @@ impl<'a> AdapterCall<'a> {
         self.shape.params.as_slice()
     }
 
-    /// The parameter at this place, as the implementation has it.
+    /// The parameter at this index, as the implementation has it.
     pub fn parameter(&self, place: usize) -> Option<ParamType> {
         let TypedImplementation { ty, target } = *self.implementation;
         target_parameter(self.view, ty, target, place)
@@ -35,10 +35,7 @@ impl<'a> AdapterCall<'a> {
 }
 
 /// The arguments of a body that has the parameters of a signature.
-pub(crate) fn formals_of(
-    alloc: Global,
-    params: &[ParamType],
-) -> Result<Items<BodyParam>, NoMemory> {
+pub(crate) fn formals_of(alloc: Global, params: &[ParamType]) -> Result<Items<BodyParam>, Failure> {
     let mut formals = Items::new(alloc);
     for param in params {
         formals.push(BodyParam {

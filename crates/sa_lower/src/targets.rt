@@ -1,6 +1,6 @@
 //! The body that does each implementation of a signature: that of the feature, or an adapter around it. As soon as one
 //! implementation of a signature needs an adapter, all of them have one, so that a dispatched call, which doesn't know
-//! which one it will reach, can make the checks of a call for all or for none.
+//! which one it will call, can make the checks of a call for all or for none.
 
 ghost use Rattle.std.specs.Prelude.{All};
 ghost use Rattle.sa_lower.specs.TypedParts.{HasCallType};
@@ -8,21 +8,21 @@ ghost use Rattle.sa_lower.specs.TypedParts.{HasCallType};
 use crate::adapter::adapter;
 use crate::passing::{ArgConversion, passing_of, widened_result};
 use crate::signatures::AdapterCall;
-use sa_ast::{NoMemory, held};
+use failure::{Failure, Invariant, known};
 use sa_cfg::CfgBody;
 use sa_typed::{Target, TypedImplementation};
 use sa_typing::{CallType, TypingView};
 use sqlite_items::Items;
 use std::alloc::Global;
 
-/// The number of the body of each implementation, in the order of the signatures and of their implementations. The bodies
-/// that are made for them stand behind the others.
+/// The index of the body of each implementation, in the order of the signatures and of their implementations. The adapters come after the
+/// other bodies.
 #[tactic(auto, unfolding(crate::specs::TypedParts::HasCallType))]
 pub(crate) fn targets(
     alloc: Global,
     view: &TypingView<'_>,
     bodies: &mut Items<CfgBody>,
-) -> Result<Items<u32>, NoMemory>
+) -> Result<Items<u32>, Failure>
     requires { All HasCallType view.now.shapes.now }
 {
     let mut targets = Items::new(alloc);
@@ -48,7 +48,7 @@ fn add_targets(
     implementations: &[TypedImplementation],
     bodies: &mut Items<CfgBody>,
     targets: &mut Items<u32>,
-) -> Result<(), NoMemory> {
+) -> Result<(), Failure> {
     let Some(features) = plain_features(alloc, view, shape, implementations)? else {
         return add_adapters(alloc, view, shape, implementations, bodies, targets);
     };
@@ -64,9 +64,9 @@ fn add_adapters(
     implementations: &[TypedImplementation],
     bodies: &mut Items<CfgBody>,
     targets: &mut Items<u32>,
-) -> Result<(), NoMemory> {
+) -> Result<(), Failure> {
     for implementation in implementations {
-        let number = held(u32::try_from(bodies.len()).ok())?;
+        let number = known(u32::try_from(bodies.len()).ok(), Invariant::CheckedCount)?;
         let implemented = AdapterCall {
             view,
             implementation,
@@ -84,7 +84,7 @@ fn plain_features<'a>(
     view: &'a TypingView<'a>,
     shape: &'a CallType,
     implementations: &'a [TypedImplementation],
-) -> Result<Option<Items<u32>>, NoMemory> {
+) -> Result<Option<Items<u32>>, Failure> {
     let mut features = Items::new(alloc);
     for implementation in implementations {
         let implemented = AdapterCall {

@@ -1,4 +1,4 @@
-//! A whole typed program as a flat one.
+//! Lowers a whole typed program to control-flow graphs.
 
 ghost use Rattle.std.specs.Prelude.{◌≡◌, IfOk, OnOk};
 ghost use Rattle.sa_typing.specs.Rows.{rows};
@@ -8,7 +8,8 @@ use crate::features::feature_bodies;
 use crate::lines::line_numbers;
 use crate::run::run_body;
 use crate::targets::targets;
-use sa_ast::{NoMemory, Pos};
+use failure::Failure;
+use sa_ast::Pos;
 use sa_cfg::{CfgProgram, TypeLayout};
 use sa_cfg_builder::{ProgramBuilder, Tables};
 use sa_typed::{TypeDef, TypedProgram, TypedShared};
@@ -16,16 +17,16 @@ use sa_typing::{CallTypes, TypingView};
 use sqlite_items::Items;
 use std::alloc::Global;
 
-/// The flat program of a typed one that is well typed, which has these positions.
+/// The control-flow graphs of a program that is well typed, which has these positions.
 ///
 /// # Errors
 ///
-/// `NoMemory`, also where a position is in none of its texts.
+/// A `Failure`: `Broken` where a position is in none of its texts.
 pub fn lower(
     alloc: Global,
     core: &TypedProgram,
     positions: Items<Pos>,
-) -> Result<CfgProgram, NoMemory>
+) -> Result<CfgProgram, Failure>
     requires { IsWellTyped core.now }
     ensures positions { IfOk result (λ flat. flat.positions ≡ positions) }
 {
@@ -44,7 +45,7 @@ pub fn lower(
     Ok(program)
 }
 
-/// Puts the bodies into a program, and the targets of its signatures.
+/// Adds the bodies to a program, and the targets of its signatures.
 #[tactic(auto, using(crate::proofs::Parts::parts))]
 fn add_bodies(
     alloc: Global,
@@ -52,7 +53,7 @@ fn add_bodies(
     view: &TypingView<'_>,
     draft: &mut ProgramBuilder,
     program: &mut CfgProgram,
-) -> Result<(), NoMemory>
+) -> Result<(), Failure>
     requires well { IsWellTyped core.now }
     requires rows { rows view.now ≡ rows_of core.now }
     ensures positions { OnOk result (program.new.positions ≡ program.old.positions) }
@@ -64,8 +65,8 @@ fn add_bodies(
     Ok(())
 }
 
-/// Puts into a program what the typed one says of its types and shareds.
-fn add_tables(alloc: Global, core: &TypedProgram, program: &mut CfgProgram) -> Result<(), NoMemory>
+/// Adds to a program what the typed one says of its types and shareds.
+fn add_tables(alloc: Global, core: &TypedProgram, program: &mut CfgProgram) -> Result<(), Failure>
     ensures positions { OnOk result (program.new.positions ≡ program.old.positions) }
 {
     program.types = slots(alloc, core.types.as_slice())?;
@@ -90,8 +91,8 @@ fn empty(alloc: Global, positions: Items<Pos>) -> CfgProgram
     }
 }
 
-/// The number of attributes of each type.
-fn slots(alloc: Global, types: &[TypeDef]) -> Result<Items<u32>, NoMemory> {
+/// How many attributes each type has.
+fn slots(alloc: Global, types: &[TypeDef]) -> Result<Items<u32>, Failure> {
     let mut slots = Items::new(alloc);
     for info in types {
         slots.push(info.slots)?;
@@ -100,7 +101,7 @@ fn slots(alloc: Global, types: &[TypeDef]) -> Result<Items<u32>, NoMemory> {
 }
 
 /// The layout of each type.
-fn layouts(alloc: Global, types: &[TypeDef]) -> Result<Items<TypeLayout>, NoMemory> {
+fn layouts(alloc: Global, types: &[TypeDef]) -> Result<Items<TypeLayout>, Failure> {
     let mut layouts = Items::new(alloc);
     for info in types {
         layouts.push(TypeLayout {
@@ -114,8 +115,8 @@ fn layouts(alloc: Global, types: &[TypeDef]) -> Result<Items<TypeLayout>, NoMemo
     Ok(layouts)
 }
 
-/// The number of the type of each shared.
-fn shared_types(alloc: Global, shareds: &[TypedShared]) -> Result<Items<u32>, NoMemory> {
+/// The index of the type of each shared.
+fn shared_types(alloc: Global, shareds: &[TypedShared]) -> Result<Items<u32>, Failure> {
     let mut types = Items::new(alloc);
     for shared in shareds {
         types.push(shared.ty)?;

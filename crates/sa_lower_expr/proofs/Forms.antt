@@ -1,4 +1,4 @@
--- What each form of a well-typed expression gives, and so what has become of it where it is placed.
+-- What each form of a well-typed expression gives, and so what it gives once it is lowered.
 use Rattle.std.proofs.Common.{◌≡◌, inl, inr, ◌<◌, ℕ, ℤ, Bool, true, false, not, ◌&&◌, if◌then◌else◌, List, length, get_or, Option, Some, None, option_and_then, option_map, is_some, slice_get, refl, sym, ap, subst, ◌∙◌, true≢false, eqb-true, ◌==◌, All}
 use Rattle.std.specs.Prelude.{IsTrue}
 use Rattle.std.specs.Option.{option_map_or}
@@ -72,7 +72,7 @@ module _ (f : Env) (at : TypingContext) where
   unfolding Gives
   gives_as e x g is given = ap (type_of_expr f at) is ∙ given
 
-  -- ---- forms that hold no others
+  -- ---- forms without subexpressions
 
   pub int-gives : (value : ℤ) → Gives f at (e.Int value) (Of int_type)
   int-gives value = gives_as (e.Int value) _ _ (copy.expr_of-Int value) refl
@@ -215,7 +215,7 @@ module _ (f : Env) (at : TypingContext) where
       (iter_same site d on args pos h
       ∙ type_is f.rows (get_or f.sites site d).called on g r (λ r. result_if f.rows r (args_fit f at r 0 (args_of args))) (λ r. agree (is_iter f.rows r) true) (args_fit f at r 0 (args_of args)) (result_of (result_type f.rows r)) is (reaches f.rows (iter_reached site d on args pos g h is)) refl (iter_called site d on args pos h))
 
-  -- ---- comparisons with swapped operands
+  -- ---- reversed comparisons
 
   pub swapped-plain : (target : Target) (first second : TypedExpr) (pos : Pos) (g : ExprType) → IsTyped f at (e.Reversed target first second pos) → Gives f at second g → IsPlain g
   unfolding Gives
@@ -235,7 +235,7 @@ module _ (f : Env) (at : TypingContext) where
       ∙ some_if (is_comparison f.rows class target t.0) (Of bool_type) last
       ∙ ap (λ g. Some g) (sym (compared f.rows class target t.0 (if_some (is_comparison f.rows class target t.0) (Of bool_type) last)))
 
--- ---- what is around
+-- ---- contexts
 
 in_loop_some : (k : ℕ → Bool) (o : Option LoopExits) → IsTrue (option_map_or k (option_map (λ (l : LoopExits). l.number) o) false) → IsTrue (is_some o)
 in_loop_some k None h = h
@@ -257,7 +257,7 @@ pub exception-gives : (a : ExprContext) (x : CaughtException) → a.inside.now.e
 exception-gives a x is =
     gives_as (env_of a) (expr_context a) e.Exception _ _ copy.expr_of-Exception (ap (λ (o : Option CaughtException). option_map (λ ty. Of ty) (option_map (λ (x : CaughtException). x.ty) o)) is)
 
--- ---- what is placed
+-- ---- what is lowered
 
 pub placed-value : (a : ExprContext) (x : TypedExpr) (p : LoweredExpr) (g : ExprType) → Gives (env_of a) (expr_context a) x g → p.given ≡ g → IsTrue (is_value g) → IsTrue (is_some p.var) → IsLowered a x p
 placed-value a x p g gives is value there =
@@ -277,7 +277,7 @@ pub iter-placed : (a : ExprContext) (site : ℕ) (d : Site) (on : TypedExpr) (ar
 iter-placed a site d on args pos g r p h is reaches result =
     placed-result a (e.IterCall site on args pos) p r (iter-gives (env_of a) (expr_context a) site d on args pos g r h is reaches) result
 
--- a value is in a variable once it is placed
+-- a value is in a variable once it is lowered
 pub value-there : (a : ExprContext) (x : TypedExpr) (p : LoweredExpr) → HasValue (env_of a) (expr_context a) x → IsLowered a x p → IsTrue (is_some p.var)
 unfolding HasValue gives_value Gives
 value-there a x p h is = is.var ∙ sym (ap (λ (o : Option ExprType). option_map_or is_value o false) is.given) ∙ h

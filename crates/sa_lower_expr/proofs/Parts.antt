@@ -1,4 +1,4 @@
--- What stands inside a well-typed expression is well typed, and what that expression gives.
+-- The subexpressions of a well-typed expression are well typed, and what that expression gives.
 use Rattle.std.proofs.Common.{◌≡◌, ℕ, ◌+◌, Bool, true, false, not, ◌&&◌, if◌then◌else◌, List, [], ◌∷◌, Option, Some, None, option_and_then, is_some, slice_get, refl, sym, ap, subst, ◌∙◌, true≢false, All}
 use Rattle.std.specs.Prelude.{IsTrue}
 use Rattle.std.proofs.lemmas.List.Elements.{All-nil, All-cons}
@@ -53,7 +53,7 @@ swapped_second w target g NoValue h = h
 swapped_second w target g (BoxedOf own) h = refl
 swapped_second w target g (Of class) h = refl
 
--- a receiver is a value that isn't widened
+-- a receiver is a value that isn't boxed
 pub plain_is : (g : ExprType) (ty : ℕ) → IsTrue (is_plain ty g) → IsPlain g
 plain_is NoValue ty h = h
 plain_is (Of own) ty h = refl
@@ -77,7 +77,7 @@ if_is : {A : Type 0} (b : Bool) (x y : A) → (if b then Some x else None) ≡ S
 if_is true x y is = same_Some x y is
 if_is false x y is = absurd (none-some y is)
 
--- a signature that is reached is one of the program
+-- a signature that a call resolves to is one of the program
 pub there_on : (w : Rows) (called : TypedCallee) (g : ExprType) (r : ResolvedCallee) → reached w called g ≡ Some r → IsThere w r
 there_on w (called.Static target class) g r is =
     subst (IsThere w) (if_is (is_plain class g && is_some (target_arity w class target)) (reach.Target target class) r is) tt
@@ -188,7 +188,7 @@ module _ (f : Env) (at : TypingContext) where
       let t = then_some (type_of_boxed f.rows ty) (type_of_expr f at (expr_of of)) (typed_as f at (e.Box ty of pos) _ (copy.expr_of-Widen ty of pos) h) in
       has_value f at of t.0 t.1 (plain_value t.0 ty (first_of (is_plain ty t.0) _ (if_some _ _ t.2)))
 
-  -- ---- what calls reach
+  -- ---- what calls resolve to
 
   pub given_by : {A : Type 0} (k : ExprType → Option A) (e : TypedExpr) (g : ExprType) → Gives f at e g → IsTrue (is_some (option_and_then k (type_of_expr f at (expr_of e)))) → IsTrue (is_some (k g))
   unfolding Gives
@@ -200,7 +200,7 @@ module _ (f : Env) (at : TypingContext) where
   pub bind_typed : (called : TypedCallee) (on : TypedExpr) (args : List TypedArg) (ty : ℕ) (pos : Pos) → IsTyped f at (e.Bind called on args ty pos) → IsTrue (is_some (option_and_then (λ g. option_and_then (λ r. plain_if ty (bound_args_fit f at r (reach.Bound ty) 0 0 (args_of args))) (callee_of_bind f.rows called g ty)) (type_of_expr f at (expr_of on))))
   bind_typed called on args ty pos h = typed_as f at (e.Bind called on args ty pos) _ (copy.expr_of-Bind called on args ty pos) h
 
-  -- what a call by such a way reaches, on what its receiver gives
+  -- what a call of this kind resolves to, on what its receiver gives
   pub on_of : (w : Rows) (called : TypedCallee) (on : TypedExpr) (k : ResolvedCallee → Option ExprType) (m : ResolvedCallee → Option ResolvedCallee) → IsTrue (is_some (option_and_then (λ g. option_and_then k (option_and_then m (reached w called g))) (type_of_expr f at (expr_of on)))) → HasValue f at on
   on_of w called on k m h =
       let t = then_some (λ g. option_and_then k (option_and_then m (reached w called g))) (type_of_expr f at (expr_of on)) h in

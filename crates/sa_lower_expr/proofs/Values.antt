@@ -65,7 +65,7 @@ module _ (f : Env) (at : TypingContext) where
   goes_has w ty e None is h = absurd (true≢false (sym h))
   goes_has w ty e (Some g) is h = has_value e g is (goes_value w g ty h)
 
-  -- what may stand where a type is wanted gives a value
+  -- what is assignable to a type gives a value
   pub going_has : (ty : ℕ) (e : TypedExpr) → IsTrue (is_assignable_expr f at ty (expr_of e)) → HasValue f at e
   going_has ty e h = goes_has f.rows ty e (type_of_expr f at (expr_of e)) refl h
 

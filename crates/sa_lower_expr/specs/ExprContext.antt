@@ -1,4 +1,4 @@
--- Where an expression stands, and what has become of it.
+-- The context of an expression, and what it is lowered to.
 use Rattle.std.specs.Prelude.{◌≡◌, ◌<◌, ⊤, is_some, length}
 use Rattle.sa_typed.specs.declared.expr.TypedExpr.{TypedExpr}
 use Rattle.sa_cfg_builder.specs.Contexts.{context_of}
@@ -19,7 +19,7 @@ env_of a = env a.scope.now
 abbrev pub expr_context : ExprContext → TypingContext
 expr_context a = context_of a.inside.now
 
--- it gives what its type says, in a variable where that is a value
+-- a lowered expression gives what its type says, in a variable where that is a value
 pub record IsLowered (a : ExprContext) (e : TypedExpr) (p : LoweredExpr) : Type 0 where
   pub given : Gives (env_of a) (expr_context a) e p.given
   pub var : is_some p.var ≡ is_value p.given
@@ -29,7 +29,7 @@ pub record IsResult (w : Rows) (r : ResolvedCallee) (p : LoweredExpr) : Type 0 w
   pub given : p.given ≡ result_of (result_type w r)
   pub var : is_some p.var ≡ is_value p.given
 
--- a signature that a call reaches is one of the program
+-- a signature that a call resolves to is one of the program
 abbrev pub IsThere : Rows → ResolvedCallee → Type 0
 IsThere w (reach.Signature k) = k < length w.signatures
 IsThere w _ = ⊤

@@ -1,4 +1,4 @@
--- Which expressions are calls, and which hold no others.
+-- Which expressions are calls, and which have no subexpressions.
 use Rattle.std.specs.Prelude.{◌≡◌, ◌⊎◌, ℕ, Bool, true, false, IsTrue, List}
 use Rattle.sa_ast.specs.declared.pos.Pos.{Pos}
 use Rattle.sa_typed.specs.declared.expr.TypedArg.{TypedArg}

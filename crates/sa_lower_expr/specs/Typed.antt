@@ -1,4 +1,4 @@
--- What a well-typed expression gives, at its place.
+-- What a well-typed expression gives, in its context.
 use Rattle.std.specs.Prelude.{◌≡◌, ⊤, Bool, true, false, IsTrue, is_some, Some}
 use Rattle.std.specs.Option.{option_map_or}
 use Rattle.sa_typed.specs.declared.expr.TypedArg.{TypedArg}
@@ -16,7 +16,7 @@ abbrev pub is_unboxed : ExprType → Bool
 is_unboxed (Of ty) = true
 is_unboxed _ = false
 
--- a value that isn't widened
+-- a value that isn't boxed
 abbrev pub IsPlain : ExprType → Type 0
 IsPlain given = IsTrue (is_unboxed given)
 
@@ -37,7 +37,7 @@ module _ (f : Env) (at : TypingContext) where
   unfoldable pub HasValue : TypedExpr → Type 0
   HasValue e = IsTrue (gives_value e)
 
-  -- an expression that is handed over gives a value
+  -- an expression that is passed gives a value
   abbrev pub IsArgument : TypedArg → Type 0
   IsArgument (arg.Value mode e) = HasValue e
   IsArgument _ = ⊤

@@ -7,15 +7,16 @@ ghost use Rattle.sa_lower_expr.specs.Typed.{IsArgument};
 use crate::context::ExprContext;
 use crate::expr::operand;
 use crate::passing::{LoweredArgs, none_passed, pass_open, pass_value, pass_variable};
-use sa_ast::{Mode, NoMemory};
+use failure::Failure;
+use sa_ast::Mode;
 use sa_cfg_builder::ProgramBuilder;
 use sa_typed::TypedArg;
 use sa_typing::ResolvedCallee;
 use sqlite_items::Items;
 use std::alloc::Global;
 
-/// Places the arguments of a call, from left to right. `before` has by place the variables of those that have been evaluated
-/// before; an argument behind its end hasn't been.
+/// Lowers the arguments of a call, from left to right. `before` has by index the variables of those that have been evaluated before; an
+/// argument after its end hasn't been.
 #[cycle(place)]
 pub(crate) fn arguments(
     alloc: Global,
@@ -24,7 +25,7 @@ pub(crate) fn arguments(
     reached: ResolvedCallee,
     args: &[TypedArg],
     before: &[Option<u32>],
-) -> Result<LoweredArgs, NoMemory>
+) -> Result<LoweredArgs, Failure>
     requires { All (IsArgument (env_of around.now) (expr_context around.now)) args.now }
 {
     let mut passed = none_passed(alloc, around, reached, args);
@@ -37,7 +38,7 @@ pub(crate) fn arguments(
     Ok(passed)
 }
 
-/// Places the next argument.
+/// Lowers the next argument.
 #[cycle(place)]
 fn argument(
     alloc: Global,
@@ -46,7 +47,7 @@ fn argument(
     reached: ResolvedCallee,
     arg: &TypedArg,
     passed: &mut LoweredArgs,
-) -> Result<(), NoMemory>
+) -> Result<(), Failure>
     requires { IsArgument (env_of around.now) (expr_context around.now) arg.now }
 {
     match arg {
@@ -69,14 +70,14 @@ fn evaluated_before(before: &[Option<u32>], passed: &LoweredArgs) -> Option<u32>
     }
 }
 
-/// Places the `once` arguments of a call, from left to right, and gives their variables by the places of the arguments.
+/// Lowers the `once` arguments of a call, from left to right, and gives their variables by the indices of the arguments.
 #[cycle(place)]
 pub(crate) fn once_arguments(
     alloc: Global,
     around: &ExprContext<'_>,
     draft: &mut ProgramBuilder,
     args: &[TypedArg],
-) -> Result<Items<Option<u32>>, NoMemory>
+) -> Result<Items<Option<u32>>, Failure>
     requires { All (IsArgument (env_of around.now) (expr_context around.now)) args.now }
 {
     let mut values = Items::new(alloc);
@@ -86,14 +87,14 @@ pub(crate) fn once_arguments(
     Ok(values)
 }
 
-/// Places an argument where it is `once`.
+/// Lowers an argument where it is `once`.
 #[cycle(place)]
 fn once_argument(
     alloc: Global,
     around: &ExprContext<'_>,
     draft: &mut ProgramBuilder,
     arg: &TypedArg,
-) -> Result<Option<u32>, NoMemory>
+) -> Result<Option<u32>, Failure>
     requires { IsArgument (env_of around.now) (expr_context around.now) arg.now }
 {
     match arg {

@@ -1,6 +1,6 @@
-//! Binds: the receiver and the given arguments are kept in a bound value. The value of an immutable class that is given at a
-//! bind of a signature is widened where the implementation that the receiver chooses takes it at an abstract type, so that a
-//! call of the bound value finds it as it has to be.
+//! Binds: the receiver and the given arguments are stored in a bound value. The value of an immutable class that is given at a bind of a
+//! signature is boxed where the implementation that the receiver chooses takes it at an abstract type, so that a call of the bound value
+//! finds it as it has to be.
 
 ghost use Rattle.sa_lower_expr.specs.ExprContext.{IsThere, env_of};
 
@@ -8,7 +8,7 @@ use crate::call::{Invocation, plan_of};
 use crate::context::ExprContext;
 use crate::parameters::{immutable_parameter, takes_abstract};
 use crate::passing::LoweredArgs;
-use sa_ast::NoMemory;
+use failure::Failure;
 use sa_cfg::{CallOperand, CfgOperation, FaultExit};
 use sa_cfg_builder::{BodyBuilder, ProgramBuilder};
 use sa_typed::TypedImplementation;
@@ -16,7 +16,7 @@ use sa_typing::{ResolvedCallee, TypingView};
 use sqlite_items::Items;
 use std::alloc::Global;
 
-/// A bound value of the type with the number `ty`.
+/// A bound value of the type with the index `ty`.
 pub(crate) fn bind(
     alloc: Global,
     around: &ExprContext<'_>,
@@ -24,7 +24,7 @@ pub(crate) fn bind(
     invocation: Invocation,
     passed: LoweredArgs,
     ty: u32,
-) -> Result<u32, NoMemory>
+) -> Result<u32, Failure>
     requires { IsThere (env_of around.now).rows invocation.reached }
 {
     let args = kept(alloc, around, draft, invocation, passed.args)?;
@@ -34,14 +34,14 @@ pub(crate) fn bind(
     Ok(value)
 }
 
-/// The arguments as the bound value keeps them. Only a bind of a signature widens.
+/// The arguments as the bound value stores them. Only a bind of a signature boxes.
 fn kept(
     alloc: Global,
     around: &ExprContext<'_>,
     draft: &mut ProgramBuilder,
     invocation: Invocation,
     args: Items<CallOperand>,
-) -> Result<Items<CallOperand>, NoMemory>
+) -> Result<Items<CallOperand>, Failure>
     requires { IsThere (env_of around.now).rows invocation.reached }
 {
     let ResolvedCallee::Signature(signature) = invocation.reached else {
@@ -68,13 +68,13 @@ struct SignatureBind<'a> {
     fail: FaultExit,
 }
 
-/// The arguments as they are kept for what the receiver chooses.
+/// The arguments as they are stored for what the receiver chooses.
 fn kept_for(
     alloc: Global,
     draft: &mut ProgramBuilder,
     chosen: SignatureBind<'_>,
     args: &[CallOperand],
-) -> Result<Items<CallOperand>, NoMemory> {
+) -> Result<Items<CallOperand>, Failure> {
     let mut kept = Items::new(alloc);
     for (place, arg) in args.iter().enumerate() {
         let var = kept_value(alloc, draft, chosen, place, arg.var)?;
@@ -86,14 +86,14 @@ fn kept_for(
     Ok(kept)
 }
 
-/// The variable that holds what is kept of an argument, if it is given.
+/// The variable that holds what is stored of an argument, if it is given.
 fn kept_value(
     alloc: Global,
     draft: &mut ProgramBuilder,
     chosen: SignatureBind<'_>,
     place: usize,
     given: Option<u32>,
-) -> Result<Option<u32>, NoMemory> {
+) -> Result<Option<u32>, Failure> {
     let Some(from) = given else {
         return Ok(None);
     };
@@ -107,8 +107,8 @@ fn kept_value(
     Ok(Some(widened_for(&mut draft.body, chosen, from, ty, types)?))
 }
 
-/// The types, rising, whose implementations take the argument at this place at an abstract type.
-fn takers(alloc: Global, chosen: SignatureBind<'_>, place: usize) -> Result<Items<u32>, NoMemory> {
+/// The indices of the types, rising, whose implementations take the argument at this index at an abstract type.
+fn takers(alloc: Global, chosen: SignatureBind<'_>, place: usize) -> Result<Items<u32>, Failure> {
     let mut types = Items::new(alloc);
     for implementation in chosen.implementations {
         if takes_abstract(chosen.view, implementation, place) {
@@ -118,14 +118,14 @@ fn takers(alloc: Global, chosen: SignatureBind<'_>, place: usize) -> Result<Item
     Ok(types)
 }
 
-/// A value of the immutable class `ty`, widened where the receiver is of one of the types.
+/// A value of the immutable class `ty`, boxed where the receiver is of one of the types.
 fn widened_for(
     body: &mut BodyBuilder,
     chosen: SignatureBind<'_>,
     from: u32,
     ty: u32,
     types: Items<u32>,
-) -> Result<u32, NoMemory> {
+) -> Result<u32, Failure> {
     let to = body.temporary()?;
     body.step(CfgOperation::BoxFor {
         to,

@@ -1,4 +1,4 @@
-//! The step of a call: what it calls, of which class, and whether it gives a value.
+//! The operation of a call: what it calls, of which class, and whether it gives a value.
 
 ghost use Rattle.std.specs.Prelude.{◌≡◌, IfOk};
 ghost use Rattle.sa_lower_expr.specs.ExprContext.{IsResult, env_of};
@@ -10,7 +10,8 @@ use crate::context::ExprContext;
 use crate::copies::copy_back;
 use crate::lowered::{LoweredExpr, Operand};
 use crate::passing::{LoweredArgs, pass_value};
-use sa_ast::{Mode, NoMemory, Pos};
+use failure::Failure;
+use sa_ast::{Mode, Pos};
 use sa_cfg::{CallOperand, CallOperation, CfgOperation};
 use sa_cfg_builder::{BodyBuilder, ProgramBuilder, Tables};
 use sa_typing::{ExprType, ResolvedCallee, TypingView, result_type};
@@ -21,7 +22,7 @@ use std::alloc::Global;
 #[derive(Clone, Copy)]
 pub(crate) struct Invocation {
     pub reached: ResolvedCallee,
-    /// The number of the type whose feature is called. Of a bound value it isn't read.
+    /// The index of the type whose feature is called. Of a bound value it isn't read.
     pub class: u32,
     pub recv: u32,
     pub pos: Pos,
@@ -47,13 +48,13 @@ impl Invocation {
     }
 }
 
-/// A call with the copies back behind it.
+/// A call with the copies out after it.
 pub(crate) fn call(
     around: &ExprContext<'_>,
     draft: &mut ProgramBuilder,
     invocation: Invocation,
     passed: LoweredArgs,
-) -> Result<LoweredExpr, NoMemory>
+) -> Result<LoweredExpr, Failure>
     ensures { IfOk result (IsResult (env_of around.now).rows invocation.reached) }
 {
     let placed = result_of_call(&around.scope.view, &mut draft.body, invocation.reached)?;
@@ -71,7 +72,7 @@ pub(crate) fn plan_of(
     invocation: Invocation,
     args: Items<CallOperand>,
     value: Option<u32>,
-) -> Result<CallOperation, NoMemory> {
+) -> Result<CallOperation, Failure> {
     let fail = tables.fail(invocation.pos, around.inside.raised)?;
     Ok(CallOperation {
         callee: callee(invocation.reached),
@@ -84,7 +85,7 @@ pub(crate) fn plan_of(
 }
 
 /// One value as the only argument.
-pub(crate) fn one_passed(alloc: Global, value: u32) -> Result<LoweredArgs, NoMemory> {
+pub(crate) fn one_passed(alloc: Global, value: u32) -> Result<LoweredArgs, Failure> {
     let mut passed = LoweredArgs::of_values(alloc);
     pass_value(&mut passed, Mode::In, value)?;
     Ok(passed)
@@ -95,7 +96,7 @@ pub(crate) fn result_of_call(
     view: &TypingView<'_>,
     body: &mut BodyBuilder,
     reached: ResolvedCallee,
-) -> Result<LoweredExpr, NoMemory>
+) -> Result<LoweredExpr, Failure>
     ensures { IfOk result (IsResult (rows view.now) reached) }
 {
     let given = ExprType::of_result(result_type(view, reached));

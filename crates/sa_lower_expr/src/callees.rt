@@ -1,4 +1,4 @@
-//! What a call reaches by what its receiver gives.
+//! What a call resolves to by what its receiver gives.
 
 ghost use Rattle.std.specs.Prelude.{◌≡◌, IsTrue, is_some};
 ghost use Rattle.sa_lower_expr.specs.Typed.{IsPlain};
@@ -9,7 +9,7 @@ use sa_cfg::CallTarget;
 use sa_typed::{Target, TypedCallee};
 use sa_typing::{ExprType, ResolvedCallee};
 
-/// What a call reaches on a receiver that gives this.
+/// What a call resolves to on a receiver that gives this.
 pub(crate) fn reached_on(called: TypedCallee, on: ExprType) -> ResolvedCallee
     requires { IsPlain on }
     ensures { (w : Rows) → IsTrue (is_some (reached w called on)) → reached w called on ≡ Some result }
@@ -21,7 +21,7 @@ pub(crate) fn reached_on(called: TypedCallee, on: ExprType) -> ResolvedCallee
     }
 }
 
-/// The number of the type of a value that isn't widened.
+/// The index of the type of an unboxed value.
 pub(crate) fn type_of(given: ExprType) -> u32
     requires { IsPlain given }
     ensures { given ≡ ExprType.Of result }
@@ -32,7 +32,7 @@ pub(crate) fn type_of(given: ExprType) -> u32
     }
 }
 
-/// What the step of a call on this calls.
+/// The target of the operation of a call of this.
 pub(crate) fn callee(reached: ResolvedCallee) -> CallTarget {
     match reached {
         ResolvedCallee::Target(target, _) => callee_of(target),
@@ -41,7 +41,7 @@ pub(crate) fn callee(reached: ResolvedCallee) -> CallTarget {
     }
 }
 
-/// What the step of a call of a target calls.
+/// The call target for a target of the typed AST.
 pub fn callee_of(target: Target) -> CallTarget {
     match target {
         Target::Feature(feature) => CallTarget::Body(feature),

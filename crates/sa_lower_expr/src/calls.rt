@@ -1,4 +1,4 @@
-//! The forms of calls: of routines, of iters, of comparisons with swapped operands, and binds.
+//! The forms of calls: of routines, of iters, of reversed comparisons, and binds.
 
 ghost use Rattle.std.specs.Prelude.{IfOk};
 ghost use Rattle.sa_lower_expr.specs.ExprContext.{IsLowered, expr_context, env_of};
@@ -13,13 +13,13 @@ use crate::context::ExprContext;
 use crate::expr::operand;
 use crate::lowered::{LoweredExpr, value};
 use crate::sites::{begin_others, begin_site, end_site};
-use sa_ast::NoMemory;
+use failure::Failure;
 use sa_cfg_builder::ProgramBuilder;
 use sa_typed::TypedExpr;
 use sa_typing::{ExprType, ResolvedCallee};
 use std::alloc::Global;
 
-/// Places a call, a call of an iter, a bind, or a comparison that is called on its second operand.
+/// Lowers a call, a call of an iter, a bind, or a comparison that is called on its second operand.
 #[tactic(auto, using(crate::proofs::Parts::receivers, crate::proofs::Forms::calls))]
 #[cycle(place)]
 pub(crate) fn lower_call(
@@ -27,7 +27,7 @@ pub(crate) fn lower_call(
     around: &ExprContext<'_>,
     draft: &mut ProgramBuilder,
     e: &TypedExpr,
-) -> Result<LoweredExpr, NoMemory>
+) -> Result<LoweredExpr, Failure>
     requires form { IsCall e.now }
     requires typed { IsTyped (env_of around.now) (expr_context around.now) e.now }
     ensures { IfOk result (IsLowered around.now e.now) }

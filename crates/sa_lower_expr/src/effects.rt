@@ -1,9 +1,9 @@
-//! Whether an expression writes variables of its feature: an `out` or `inout` argument of a call inside does.
+//! Effects: whether an expression writes variables of its feature, which an `out` or `inout` argument of a call inside does.
 
 use crate::context::Effects;
 use sa_typed::{TypedArg, TypedExpr};
 
-/// What the calls of a statement with this expression do with variables.
+/// The effects on variables of the calls of a statement with this expression.
 pub(crate) fn variables_in(e: &TypedExpr) -> Effects {
     if writes(e) {
         Effects::Writes

@@ -1,4 +1,4 @@
-//! An expression as steps and blocks: what stands inside it is placed first, from left to right.
+//! Lowers an expression to operations and blocks: its subexpressions first, from left to right.
 
 ghost use Rattle.std.specs.Prelude.{◌≡◌, All, IfOk, is_some};
 ghost use Rattle.sa_cfg_builder.specs.Contexts.{context_of};
@@ -12,20 +12,21 @@ use crate::effects::variables_in;
 use crate::logic::{Connective, begin_right, joined};
 use crate::lowered::{LoweredExpr, Operand, value};
 use crate::simple::{array, leaf, new_array, void_test, widened};
-use sa_ast::NoMemory;
+use failure::Failure;
 use sa_cfg_builder::{LoweringContext, ProgramBuilder};
 use sa_typed::TypedExpr;
 use sa_typing::{BOOL, ExprType, TypingEnv};
 use sqlite_items::Items;
 use std::alloc::Global;
 
-/// Places the expression of a statement at the end of the open block, and gives the variable that holds its value; a call that
-/// gives no result has none. The statement stands in a feature or an initialiser, with this around it. What temporaries of
-/// statements held before isn't read any more. The block that is open afterwards is the one in which the value is there.
+/// Lowers the expression of a statement at the end of the open block, and gives the variable that holds its value; a call without a result
+/// has none. `scope` is the feature or the initialiser that the statement belongs to, `owner` says which of the two, and `inside` is its
+/// context. What temporaries of earlier statements held isn't read any more. The block that is open afterwards is the one where the value
+/// is there.
 ///
 /// # Errors
 ///
-/// `NoMemory`.
+/// A `Failure`.
 #[tactic(auto, using(crate::proofs::Forms::placed))]
 pub fn lower_expr(
     alloc: Global,
@@ -34,7 +35,7 @@ pub fn lower_expr(
     inside: &LoweringContext,
     draft: &mut ProgramBuilder,
     e: &TypedExpr,
-) -> Result<Option<u32>, NoMemory>
+) -> Result<Option<u32>, Failure>
     requires { IsTyped (env scope.now) (context_of inside.now) e.now }
     ensures { IfOk result (λ var. is_some var ≡ gives_value (env scope.now) (context_of inside.now) e.now) }
 {
@@ -49,7 +50,7 @@ pub fn lower_expr(
     Ok(placed.var)
 }
 
-/// Places an expression.
+/// Lowers an expression.
 #[tactic(auto, using(crate::proofs::Parts::parts, crate::proofs::Forms::forms))]
 #[cycle(place)]
 fn lower(
@@ -57,7 +58,7 @@ fn lower(
     around: &ExprContext<'_>,
     draft: &mut ProgramBuilder,
     e: &TypedExpr,
-) -> Result<LoweredExpr, NoMemory>
+) -> Result<LoweredExpr, Failure>
     requires { IsTyped (env_of around.now) (expr_context around.now) e.now }
     ensures { IfOk result (IsLowered around.now e.now) }
 {
@@ -115,7 +116,7 @@ fn lower(
     }
 }
 
-/// Places an expression that has a value.
+/// Lowers an expression that has a value.
 #[tactic(auto, using(crate::proofs::Forms::placed))]
 #[cycle(place)]
 pub(crate) fn operand(
@@ -123,7 +124,7 @@ pub(crate) fn operand(
     around: &ExprContext<'_>,
     draft: &mut ProgramBuilder,
     e: &TypedExpr,
-) -> Result<Operand, NoMemory>
+) -> Result<Operand, Failure>
     requires { HasValue (env_of around.now) (expr_context around.now) e.now }
     ensures { IfOk result (λ operand. Gives (env_of around.now) (expr_context around.now) e.now operand.given) }
 {
@@ -137,14 +138,14 @@ pub(crate) fn operand(
     }
 }
 
-/// Places expressions that have values, from left to right, and gives the variables that hold these.
+/// Lowers expressions that have values, from left to right, and gives the variables that hold these.
 #[cycle(place)]
 fn operands(
     alloc: Global,
     around: &ExprContext<'_>,
     draft: &mut ProgramBuilder,
     list: &[TypedExpr],
-) -> Result<Items<u32>, NoMemory>
+) -> Result<Items<u32>, Failure>
     requires { All (HasValue (env_of around.now) (expr_context around.now)) list.now }
 {
     let mut values = Items::new(alloc);

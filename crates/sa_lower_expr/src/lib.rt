@@ -1,4 +1,4 @@
-//! Typed expressions as steps and blocks of the body that is being filled.
+//! Lowers typed expressions to operations and basic blocks of the body that is being built.
 #![tactic(auto)]
 
 mod arguments;

@@ -1,11 +1,11 @@
 //! `and` and `or`: the right operand is evaluated only where the left one doesn't decide.
 
-use sa_ast::NoMemory;
+use failure::Failure;
 use sa_cfg::{CfgOperation, Constant, Terminator};
 use sa_cfg_builder::BodyBuilder;
 use std::alloc::Global;
 
-/// What joins two operands.
+/// The operator that joins two operands.
 #[derive(Clone, Copy, Debug, PartialEq, Eq)]
 pub(crate) enum Connective {
     And,
@@ -22,7 +22,7 @@ impl Connective {
     }
 }
 
-/// What joins the operands, the variable that gets the value, and the block in which the left operand has decided it.
+/// The operator, the variable that gets the value, and the block to go on in where the left operand has decided it.
 #[derive(Clone, Copy)]
 pub(crate) struct ShortCircuitJoin {
     connective: Connective,
@@ -36,7 +36,7 @@ pub(crate) fn begin_right(
     body: &mut BodyBuilder,
     connective: Connective,
     left: u32,
-) -> Result<ShortCircuitJoin, NoMemory> {
+) -> Result<ShortCircuitJoin, Failure> {
     let joint = ShortCircuitJoin {
         connective,
         to: body.temporary()?,
@@ -47,7 +47,7 @@ pub(crate) fn begin_right(
     Ok(joint)
 }
 
-/// Where it goes on behind the left operand.
+/// The terminator after the left operand.
 fn decision(joint: ShortCircuitJoin, left: u32, right: u32) -> Terminator {
     match joint.connective {
         Connective::And => Terminator::Branch {
@@ -63,13 +63,13 @@ fn decision(joint: ShortCircuitJoin, left: u32, right: u32) -> Terminator {
     }
 }
 
-/// Joins the two ways to the value: the right operand, or the left one where it was enough.
+/// Joins the two paths to the value: the right operand, or the left one where it was enough.
 pub(crate) fn joined(
     alloc: Global,
     body: &mut BodyBuilder,
     joint: ShortCircuitJoin,
     right: u32,
-) -> Result<u32, NoMemory> {
+) -> Result<u32, Failure> {
     let to = joint.to;
     let decided = joint.connective.deciding();
     let following = body.block(alloc)?;

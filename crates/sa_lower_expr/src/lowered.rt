@@ -1,8 +1,8 @@
-//! An expression whose steps stand at the end of the open block.
+//! A lowered expression, whose operations are at the end of the open block.
 
 ghost use Rattle.std.specs.Prelude.{◌≡◌, IfOk, IsTrue, is_some};
 
-use sa_ast::NoMemory;
+use failure::Failure;
 use sa_typing::ExprType;
 
 /// What an expression gives, and the variable that holds its value. A call without a result has none.
@@ -20,7 +20,7 @@ pub(crate) struct Operand {
 }
 
 /// A form that always has a value.
-pub(crate) fn value(var: Result<u32, NoMemory>, given: ExprType) -> Result<LoweredExpr, NoMemory>
+pub(crate) fn value(var: Result<u32, Failure>, given: ExprType) -> Result<LoweredExpr, Failure>
     ensures given { IfOk result (λ p. p.given ≡ given) }
     ensures var { IfOk result (λ p. IsTrue (is_some p.var)) }
 {

@@ -3,7 +3,7 @@
 use sa_typed::TypedImplementation;
 use sa_typing::{ResolvedCallee, TypingView, parameter, target_parameter};
 
-/// The number of the immutable class that a call takes at this place, where it takes one.
+/// The index of the immutable class that a call takes for the argument at this index, where it takes one.
 pub(crate) fn immutable_parameter(
     view: &TypingView<'_>,
     reached: ResolvedCallee,
@@ -17,7 +17,7 @@ pub(crate) fn immutable_parameter(
     }
 }
 
-/// Whether an implementation takes the argument at this place at an abstract type.
+/// Whether an implementation takes the argument at this index at an abstract type.
 pub fn takes_abstract(
     view: &TypingView<'_>,
     implementation: &TypedImplementation,

@@ -1,17 +1,18 @@
-//! How the arguments of a call are passed. A variable that the call writes is passed itself, and the call copies back into
-//! it, unless more has to be done:
+//! How the arguments of a call are passed. A variable that the call writes is passed itself, and the call copies out into it, unless more
+//! has to be done:
 //!
-//! - what an `out` argument gives has to be widened, which is a step behind the call;
-//! - an argument behind an `inout` one writes variables, so that the value at the place of the `inout` argument is kept.
+//! - what an `out` argument gives has to be boxed, which is an operation after the call;
+//! - an argument after an `inout` one writes variables, so that the value of the `inout` argument is copied when it is evaluated.
 //!
-//! From the first such argument on each written one is passed in a temporary, so that copies back stay in their order.
+//! From the first such argument on each written one is passed in a temporary, so that copies out stay in their order.
 
 use crate::context::{Effects, ExprContext};
 use crate::copies::OutCopy;
 use crate::effects::written_up_to;
 use crate::parameters::immutable_parameter;
 use crate::simple::copied;
-use sa_ast::{Mode, NoMemory};
+use failure::Failure;
+use sa_ast::Mode;
 use sa_cfg::CallOperand;
 use sa_cfg_builder::{BodyBuilder, ProgramBuilder};
 use sa_typed::TypedArg;
@@ -23,9 +24,9 @@ use std::alloc::Global;
 #[derive(Drop)]
 pub(crate) struct LoweredArgs {
     pub args: Items<CallOperand>,
-    /// What has to be done behind the call, in this order.
+    /// What has to be done after the call, in this order.
     pub copies: Items<OutCopy>,
-    /// The place of the first argument from which on the written ones are passed in temporaries.
+    /// The index of the first argument from which on the written ones are passed in temporaries.
     temporaries_from: usize,
 }
 
@@ -54,7 +55,7 @@ pub(crate) fn none_passed(
     }
 }
 
-/// The place of the first argument from which on the written ones are passed in temporaries, or the number of arguments.
+/// The index of the first argument from which on the written ones are passed in temporaries, or the number of arguments.
 fn temporaries_from(around: &ExprContext<'_>, reached: ResolvedCallee, args: &[TypedArg]) -> usize {
     if around.variables == Effects::Pure {
         return args.len();
@@ -85,7 +86,7 @@ fn needs_temporary(
     }
 }
 
-/// The number of the immutable type from which what an `out` argument gives is widened into its variable, if it is.
+/// The index of the immutable type whose value, given by an `out` argument, is boxed for the variable, if it is.
 fn widening(
     around: &ExprContext<'_>,
     reached: ResolvedCallee,
@@ -101,7 +102,7 @@ fn widening(
 }
 
 /// Passes a value.
-pub(crate) fn pass_value(passed: &mut LoweredArgs, mode: Mode, value: u32) -> Result<(), NoMemory> {
+pub(crate) fn pass_value(passed: &mut LoweredArgs, mode: Mode, value: u32) -> Result<(), Failure> {
     passed.args.push(CallOperand {
         mode,
         var: Some(value),
@@ -110,7 +111,7 @@ pub(crate) fn pass_value(passed: &mut LoweredArgs, mode: Mode, value: u32) -> Re
 }
 
 /// Leaves an argument of a bind open.
-pub(crate) fn pass_open(passed: &mut LoweredArgs) -> Result<(), NoMemory> {
+pub(crate) fn pass_open(passed: &mut LoweredArgs) -> Result<(), Failure> {
     passed.args.push(CallOperand {
         mode: Mode::In,
         var: None,
@@ -126,7 +127,7 @@ pub(crate) fn pass_variable(
     passed: &mut LoweredArgs,
     mode: Mode,
     var: u32,
-) -> Result<(), NoMemory> {
+) -> Result<(), Failure> {
     let place = passed.args.len();
     if place < passed.temporaries_from {
         return pass_value(passed, mode, var);
@@ -146,7 +147,7 @@ fn out_copy(
     reached: ResolvedCallee,
     place: usize,
     var: u32,
-) -> Result<OutCopy, NoMemory> {
+) -> Result<OutCopy, Failure> {
     let widened = widening(around, reached, place, var);
     Ok(OutCopy {
         to: var,
@@ -155,8 +156,8 @@ fn out_copy(
     })
 }
 
-/// An `inout` argument in a temporary, with the value that the variable has at this place.
-fn inout_copy(body: &mut BodyBuilder, var: u32) -> Result<OutCopy, NoMemory> {
+/// An `inout` argument in a temporary, with the value that the variable has when the argument is evaluated.
+fn inout_copy(body: &mut BodyBuilder, var: u32) -> Result<OutCopy, Failure> {
     Ok(OutCopy {
         to: var,
         from: copied(body, var)?,

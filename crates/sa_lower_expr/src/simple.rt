@@ -1,4 +1,4 @@
-//! The forms of one step on operands that are in variables already, and array literals.
+//! The forms of one operation on operands that are in variables already, and array literals.
 
 ghost use Rattle.std.specs.Prelude.{◌≡◌, IfOk, IsTrue, is_some};
 ghost use Rattle.sa_lower_expr.specs.ExprContext.{IsLowered, expr_context, env_of};
@@ -7,21 +7,22 @@ ghost use Rattle.sa_lower_expr.specs.Typed.{IsTyped};
 
 use crate::context::{Effects, ExprContext, Owner};
 use crate::lowered::{LoweredExpr, value};
-use sa_ast::{Name, NoMemory, Pos, held};
+use failure::{Failure, Invariant, known};
+use sa_ast::{Name, Pos};
 use sa_cfg::{CfgOperation, Constant, FaultExit};
 use sa_cfg_builder::{BodyBuilder, CaughtException, ProgramBuilder};
 use sa_typed::TypedExpr;
 use sa_typing::{BOOL, CHAR, ExprType, INT, STR};
 use std::alloc::Global;
 
-/// Places a form that holds no expressions.
+/// Lowers a form without subexpressions.
 #[tactic(auto, using(crate::proofs::Forms::leaves))]
 pub(crate) fn leaf(
     alloc: Global,
     around: &ExprContext<'_>,
     draft: &mut ProgramBuilder,
     e: &TypedExpr,
-) -> Result<LoweredExpr, NoMemory>
+) -> Result<LoweredExpr, Failure>
     requires form { IsLeaf e.now }
     requires typed { IsTyped (env_of around.now) (expr_context around.now) e.now }
     ensures { IfOk result (IsLowered around.now e.now) }
@@ -52,43 +53,43 @@ pub(crate) fn leaf(
 }
 
 /// A constant.
-fn constant(body: &mut BodyBuilder, value: Constant) -> Result<u32, NoMemory> {
+fn constant(body: &mut BodyBuilder, value: Constant) -> Result<u32, Failure> {
     let to = body.temporary()?;
     body.step(CfgOperation::Const { to, value })?;
     Ok(to)
 }
 
 /// A text.
-fn text(alloc: Global, draft: &mut ProgramBuilder, text: &Name) -> Result<u32, NoMemory> {
+fn text(alloc: Global, draft: &mut ProgramBuilder, text: &Name) -> Result<u32, Failure> {
     let number = draft.tables.texts.number(alloc, text)?;
     constant(&mut draft.body, Constant::Text(number))
 }
 
 /// `self`, which in an initialiser is the void value of the class.
-fn me(around: &ExprContext<'_>, body: &mut BodyBuilder) -> Result<u32, NoMemory> {
+fn me(around: &ExprContext<'_>, body: &mut BodyBuilder) -> Result<u32, Failure> {
     match around.owner {
         Owner::Feature => own_object(body),
         Owner::Initialiser => constant(body, Constant::Void(around.scope.class)),
     }
 }
 
-/// The own object of the body.
-fn own_object(body: &mut BodyBuilder) -> Result<u32, NoMemory> {
+/// The body's `self`.
+fn own_object(body: &mut BodyBuilder) -> Result<u32, Failure> {
     let to = body.temporary()?;
     body.step(CfgOperation::SelfRef { to })?;
     Ok(to)
 }
 
-/// A variable of the feature: itself, or its value at this place where a call behind it may write it.
-fn variable(around: &ExprContext<'_>, body: &mut BodyBuilder, var: u32) -> Result<u32, NoMemory> {
+/// A variable of the feature: itself, or a copy of its value where a later call may write it.
+fn variable(around: &ExprContext<'_>, body: &mut BodyBuilder, var: u32) -> Result<u32, Failure> {
     match around.variables {
         Effects::Pure => Ok(var),
         Effects::Writes => copied(body, var),
     }
 }
 
-/// The value that a variable has at this place.
-pub(crate) fn copied(body: &mut BodyBuilder, var: u32) -> Result<u32, NoMemory> {
+/// A copy of the value that a variable has now.
+pub(crate) fn copied(body: &mut BodyBuilder, var: u32) -> Result<u32, Failure> {
     let to = body.temporary()?;
     body.move_to(to, var)?;
     Ok(to)
@@ -106,7 +107,7 @@ fn exception(around: &ExprContext<'_>) -> CaughtException
 }
 
 /// `void(e)`
-pub(crate) fn void_test(body: &mut BodyBuilder, from: u32) -> Result<u32, NoMemory> {
+pub(crate) fn void_test(body: &mut BodyBuilder, from: u32) -> Result<u32, Failure> {
     let to = body.temporary()?;
     body.step(CfgOperation::IsVoid { to, from })?;
     Ok(to)
@@ -118,7 +119,7 @@ fn new_object(
     draft: &mut ProgramBuilder,
     ty: u32,
     pos: Pos,
-) -> Result<u32, NoMemory> {
+) -> Result<u32, Failure> {
     let fail = draft.tables.fail(pos, around.inside.raised)?;
     let to = draft.body.temporary()?;
     draft.body.step(CfgOperation::New { to, ty, fail })?;
@@ -132,7 +133,7 @@ pub(crate) fn new_array(
     ty: u32,
     count: u32,
     pos: Pos,
-) -> Result<u32, NoMemory> {
+) -> Result<u32, Failure> {
     let fail = draft.tables.fail(pos, around.inside.raised)?;
     let to = draft.body.temporary()?;
     draft.body.step(CfgOperation::NewArray {
@@ -144,28 +145,28 @@ pub(crate) fn new_array(
     Ok(to)
 }
 
-/// A value of the immutable class `ty` where an abstract type is wanted.
+/// A value of the immutable class `ty`, boxed where an abstract type is wanted.
 pub(crate) fn widened(
     around: &ExprContext<'_>,
     draft: &mut ProgramBuilder,
     ty: u32,
     from: u32,
     pos: Pos,
-) -> Result<u32, NoMemory> {
+) -> Result<u32, Failure> {
     let fail = draft.tables.fail(pos, around.inside.raised)?;
     let to = draft.body.temporary()?;
     widen(&mut draft.body, to, from, ty, fail)?;
     Ok(to)
 }
 
-/// Widens a value into a variable.
+/// Boxes a value into a variable.
 pub(crate) fn widen(
     body: &mut BodyBuilder,
     to: u32,
     from: u32,
     ty: u32,
     fail: FaultExit,
-) -> Result<(), NoMemory> {
+) -> Result<(), Failure> {
     body.step(CfgOperation::Box { to, from, ty, fail })
 }
 
@@ -176,8 +177,8 @@ pub(crate) fn array(
     ty: u32,
     elements: &[u32],
     pos: Pos,
-) -> Result<u32, NoMemory> {
-    let count = held(i32::try_from(elements.len()).ok())?;
+) -> Result<u32, Failure> {
+    let count = known(i32::try_from(elements.len()).ok(), Invariant::CheckedCount)?;
     let count = constant(&mut draft.body, Constant::Int(count))?;
     let array = new_array(around, draft, ty, count, pos)?;
     let at = draft.body.temporary()?;
@@ -187,7 +188,7 @@ pub(crate) fn array(
     Ok(array)
 }
 
-/// Puts an element of an array literal in its place, which is told in the variable `at`.
+/// Sets an element of an array literal at the index that is in the variable `at`.
 fn put_item(
     body: &mut BodyBuilder,
     array: u32,
@@ -195,8 +196,8 @@ fn put_item(
     at: u32,
     place: usize,
     value: u32,
-) -> Result<(), NoMemory> {
-    let place = held(i32::try_from(place).ok())?;
+) -> Result<(), Failure> {
+    let place = known(i32::try_from(place).ok(), Invariant::CheckedCount)?;
     body.step(CfgOperation::Const {
         to: at,
         value: Constant::Int(place),

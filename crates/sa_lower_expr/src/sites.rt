@@ -1,7 +1,6 @@
-//! Calls of iters. A site without an instance starts one, else it resumes the one that is there. The receiver and the `once`
-//! arguments are evaluated on the way of a start alone. The other arguments are evaluated on both ways, at a start behind the
-//! `once` ones: they are placed once, in a block that both ways come to, since calls of iters may nest in them, and the site
-//! is asked again behind them.
+//! Calls of iters. A site without an instance starts one, otherwise it resumes its instance. The receiver and the `once` arguments are
+//! evaluated on the path of a start alone. The other arguments are evaluated on both paths, at a start after the `once` ones: they are
+//! lowered once, in a block where both paths join, since calls of iters may nest in them, and the site is tested again after them.
 
 ghost use Rattle.std.specs.Prelude.{IfOk, IsTrue, is_some};
 ghost use Rattle.sa_lower_expr.specs.ExprContext.{IsResult, env_of};
@@ -12,21 +11,21 @@ use crate::context::ExprContext;
 use crate::copies::copy_back;
 use crate::lowered::LoweredExpr;
 use crate::passing::LoweredArgs;
-use sa_ast::NoMemory;
+use failure::Failure;
 use sa_cfg::{CallOperation, Terminator};
 use sa_cfg_builder::{BodyBuilder, ProgramBuilder};
 use sa_typed::TypedArg;
 use std::alloc::Global;
 
-/// A site whose call is being placed.
+/// A site whose call is being lowered.
 #[derive(Clone, Copy)]
 pub(crate) struct SiteBlocks {
     number: u32,
-    /// The block in which the instance that is there is resumed.
+    /// The block in which an instance is resumed, where the site has one.
     again: u32,
-    /// The block behind the call, in which the value is there.
+    /// The block after the call, where the value is there.
     following: u32,
-    /// Where arguments are evaluated at each call.
+    /// The blocks for arguments that are evaluated at each call, where there are such arguments.
     others: Option<PerCallArgs>,
 }
 
@@ -35,18 +34,17 @@ pub(crate) struct SiteBlocks {
 struct PerCallArgs {
     /// The block in which they are evaluated.
     joined: u32,
-    /// The block behind them in which an instance is started.
+    /// The block after them in which an instance is started.
     starting: u32,
 }
 
-/// Asks whether the site has an instance, and opens the block in which the receiver and the `once` arguments of a start are
-/// evaluated.
+/// Tests whether the site has an instance, and opens the block in which the receiver and the `once` arguments of a start are evaluated.
 pub(crate) fn begin_site(
     alloc: Global,
     body: &mut BodyBuilder,
     number: u32,
     args: &[TypedArg],
-) -> Result<SiteBlocks, NoMemory> {
+) -> Result<SiteBlocks, Failure> {
     let fresh = body.block(alloc)?;
     let site = SiteBlocks {
         number,
@@ -63,7 +61,7 @@ fn others_of(
     alloc: Global,
     body: &mut BodyBuilder,
     args: &[TypedArg],
-) -> Result<Option<PerCallArgs>, NoMemory> {
+) -> Result<Option<PerCallArgs>, Failure> {
     if !has_others(args) {
         return Ok(None);
     }
@@ -83,7 +81,7 @@ fn has_others(args: &[TypedArg]) -> bool {
     false
 }
 
-/// Where the call of a site with an instance goes on.
+/// The block in which the call goes on where the site has an instance.
 fn resumed_in(site: SiteBlocks) -> u32 {
     match site.others {
         Some(others) => others.joined,
@@ -96,15 +94,15 @@ pub(crate) fn begin_others(
     alloc: Global,
     body: &mut BodyBuilder,
     site: SiteBlocks,
-) -> Result<(), NoMemory> {
+) -> Result<(), Failure> {
     let Some(others) = site.others else {
         return Ok(());
     };
     body.end(alloc, Terminator::Jump(others.joined), others.joined)
 }
 
-/// Starts or resumes the instance of the site, and gives what it has yielded. Where the instance ends, the loop of the site is
-/// left, and nothing is copied back.
+/// Starts or resumes the instance of the site, and gives the value that it has yielded. Where the instance ends, the loop of the site is
+/// left, and nothing is copied out.
 pub(crate) fn end_site(
     alloc: Global,
     around: &ExprContext<'_>,
@@ -112,7 +110,7 @@ pub(crate) fn end_site(
     site: SiteBlocks,
     invocation: Invocation,
     passed: LoweredArgs,
-) -> Result<LoweredExpr, NoMemory>
+) -> Result<LoweredExpr, Failure>
     requires { IsTrue (is_some around.now.inside.now.innermost) }
     ensures { IfOk result (IsResult (env_of around.now).rows invocation.reached) }
 {
@@ -127,35 +125,34 @@ pub(crate) fn end_site(
     Ok(placed)
 }
 
-/// Asks again whether the site has an instance, behind the arguments that are evaluated at each call.
-fn end_others(alloc: Global, body: &mut BodyBuilder, site: SiteBlocks) -> Result<(), NoMemory> {
+/// Tests again whether the site has an instance, after the arguments that are evaluated at each call.
+fn end_others(alloc: Global, body: &mut BodyBuilder, site: SiteBlocks) -> Result<(), Failure> {
     let Some(others) = site.others else {
         return Ok(());
     };
     body.test_site(alloc, site.number, others.starting, site.again)
 }
 
-/// Starts an instance, and opens the block in which the one that is there is resumed. Where the instance ends it goes on in
-/// `left`.
+/// Starts an instance, and opens the block in which an instance is resumed. Where the instance ends it goes on in `left`.
 fn start(
     alloc: Global,
     body: &mut BodyBuilder,
     site: SiteBlocks,
     plan: CallOperation,
     left: u32,
-) -> Result<(), NoMemory> {
+) -> Result<(), Failure> {
     body.start(alloc, site.number, plan, left)?;
     body.end(alloc, Terminator::Jump(site.following), site.again)
 }
 
-/// Resumes the instance, and opens the block behind the call. Where the instance ends it goes on in `left`.
+/// Resumes the instance, and opens the block after the call. Where the instance ends it goes on in `left`.
 fn resume(
     alloc: Global,
     body: &mut BodyBuilder,
     site: SiteBlocks,
     plan: CallOperation,
     left: u32,
-) -> Result<(), NoMemory> {
+) -> Result<(), Failure> {
     body.resume(alloc, site.number, plan, left)?;
     body.end(alloc, Terminator::Jump(site.following), site.following)
 }

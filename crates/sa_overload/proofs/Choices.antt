@@ -6,11 +6,11 @@ use Rattle.std.proofs.lemmas.Option.{slice_get_past}
 use Rattle.sa_overload.specs.declared.choice.Resolution.TheVariants.{Several}
 use Rattle.sa_overload.specs.Resolution.{Call, Chosen, FirstTied, FirstTwo, Leads, NamesPair, Tied, fits_at, is_before}
 
--- no candidate stands past the last one
+-- no candidate is after the last one
 past : (call : Call) (k : ℕ) → length call.cands ≤ k → fits_at call k ≡ false
 past call k h = rw (slice_get_past call.cands k h) refl
 
--- a candidate that stands before those behind it and those in front of it stands before all others
+-- a candidate that is at least as specific as those after it and those before it is so of all others
 pub before_others : (call : Call) (k n : ℕ) → length call.cands ≡ n
     → ((j : ℕ) → k + 1 ≤ j → j < n → IsTrue (fits_at call j) → IsTrue (is_before call k j))
     → ((j : ℕ) → 0 ≤ j → j < k → IsTrue (fits_at call j) → IsTrue (is_before call k j))
@@ -24,7 +24,7 @@ before_others call k n all following front j fit other =
       ]
     ]
 
--- where two candidates lead none is chosen
+-- if two candidates lead none is chosen
 pub two_lead : (call : Call) (i j k : ℕ) → i < j → Leads call i → Leads call j → ¬ Chosen call k
 two_lead call i j k order one other chosen =
     let first = chosen.alone i one in
@@ -65,7 +65,7 @@ pub named : (call : Call) (tied : Option (ℕ × ℕ)) (two pair : ℕ × ℕ) �
 named call None two pair fit found none e = inr (none refl, subst (λ (p : ℕ × ℕ). FirstTwo call p.0 p.1) (sym e) fit)
 named call (Some p) two pair fit found none e = inl (subst (λ (q : ℕ × ℕ). FirstTied call q.0 q.1) (sym e) found)
 
--- the same said of another spelling of the call and of the pair
+-- the same of another spelling of the call and of the pair
 pub named_as : (call given : Call) (pair : ℕ × ℕ) (i j : ℕ) → call ≡ given → Several pair.0 pair.1 ≡ Several i j
     → NamesPair call pair.0 pair.1 → NamesPair given i j
 named_as call given pair i j same several names =

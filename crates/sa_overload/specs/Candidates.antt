@@ -1,4 +1,4 @@
--- The call that is held together with its candidates.
+-- A call together with its candidates.
 use Rattle.sa_overload.specs.declared.candidates.Candidates.{Candidates}
 use Rattle.sa_overload.specs.Resolution.{Call, call_of}
 

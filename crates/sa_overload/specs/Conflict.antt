@@ -7,8 +7,8 @@ use Rattle.sa_ast.specs.declared.ty.ModeTy.{ModeTy}
 use Rattle.sa_ast.specs.declared.ty.Ty.{Ty}
 use Rattle.sa_ast.specs.Types.{bare}
 use Rattle.sa_ast.specs.TypeEquality.{same_mode, same_type}
-use Rattle.sa_types.specs.Abstract.{is_abstract_type}
-use Rattle.sa_types.specs.declared.sig.Sig.{Sig}
+use Rattle.sa_subst.specs.Abstract.{is_abstract_type}
+use Rattle.sa_subst.specs.declared.sig.Sig.{Sig}
 
 -- whether two types are equal or both abstract
 abbrev pub types_clash : Ty → Ty → Bool

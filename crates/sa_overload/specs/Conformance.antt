@@ -10,7 +10,7 @@ use Rattle.sa_ast.specs.Types.{bare}
 use Rattle.sa_ast.specs.TypeEquality.{same_mode, same_type}
 use Rattle.sa_subtypes.specs.SubtypeTest.{is_subtype}
 use Rattle.sa_subtypes.specs.declared.edges.SubtypeRelation.{SubtypeRelation}
-use Rattle.sa_types.specs.declared.sig.Sig.{Sig}
+use Rattle.sa_subst.specs.declared.sig.Sig.{Sig}
 
 -- whether a type of f conforms to that of g at an argument of the mode: at `in` and `once` the type in g is a subtype of that
 -- in f, at `inout` they are equal, and at `out` the type in f is a subtype of that in g

@@ -15,7 +15,7 @@ use Rattle.sa_subtypes.specs.declared.edges.SubtypeRelation.{SubtypeRelation}
 use Rattle.sa_overload.specs.declared.fit.ActualArg.{ActualArg}
 use Rattle.sa_overload.specs.declared.fit.CandidateSignature.{CandidateSignature}
 
--- whether arguments of the two modes are written alike at a call, where nothing stands before those of `in` and `once`
+-- whether arguments of the two modes are written alike at a call, where nothing is written before those of `in` and `once`
 abbrev pub is_written_alike : Mode → Mode → Bool
 is_written_alike In In = true
 is_written_alike In Once = true
@@ -25,7 +25,7 @@ is_written_alike Out Out = true
 is_written_alike Inout Inout = true
 is_written_alike _ _ = false
 
--- whether an argument of the type goes to a parameter of the mode and the type: at `in` and `once` its type is a subtype of
+-- whether an argument of the type is assignable to a parameter of the mode and the type: at `in` and `once` its type is a subtype of
 -- the parameter's, at `inout` they are equal, and at `out` the parameter's is a subtype of the argument's
 abbrev pub goes_to : SubtypeRelation → Mode → Ty → Ty → Bool
 goes_to edges In param given = is_subtype edges given param

@@ -7,14 +7,14 @@ use Rattle.sa_overload.specs.declared.fit.CandidateSignature.{CandidateSignature
 use Rattle.sa_overload.specs.Fit.{is_fit}
 use Rattle.sa_overload.specs.Specificity.{is_as_specific}
 
--- a call: the candidates of its name, its arguments, whether its place expects a result, and the edges of the types
+-- a call: the candidates of its name, its arguments, whether its context expects a result, and the subtype relation
 pub record Call : Type 0 where
   pub cands : List CandidateSignature
   pub args : List ActualArg
   pub expects_result : Bool
   pub edges : SubtypeRelation
 
--- the call that these four make
+-- the call of these four
 abbrev pub call_of : List CandidateSignature → List ActualArg → Bool → SubtypeRelation → Call
 call_of cands args expects_result edges = record { cands = cands; args = args; expects_result = expects_result; edges = edges }
 
@@ -74,7 +74,7 @@ pub record FirstTwo (call : Call) (i j : ℕ) : Type 0 where
   pub next : (k : ℕ) → IsTrue (fits_at call k) → k ≢ i → j ≤ k
 
 -- the pair that a call names for which several candidates fit and none is chosen: the first two that are tied, or the first
--- two that fit where no two are
+-- two that fit if no two are
 abbrev pub NamesPair : Call → ℕ → ℕ → Type 0
 NamesPair call i j = FirstTied call i j ⊎ (((k l : ℕ) → ¬ Tied call k l) × FirstTwo call i j)
 

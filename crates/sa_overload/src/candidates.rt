@@ -61,7 +61,7 @@ impl<'a> Candidates<'a> {
         }
     }
 
-    /// The first candidate from a place on that fits.
+    /// The first candidate from an index on that fits.
     pub fn next_fit(&self, from: usize) -> Option<usize>
         ensures found { IfSome result (λ k. IsTrue (fits_at (call_in self.now) k)) }
         ensures order { IfSome result (λ k. from ≤ k) }

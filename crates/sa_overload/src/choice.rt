@@ -16,16 +16,16 @@ pub enum Resolution {
     One(u32),
     NoneFits,
     /// Several fit, and none of them is the most specific: the first two neither of which is strictly more specific than
-    /// the other, or the first two that fit where no two are so.
+    /// the other, or the first two that fit if there are no such two.
     Several(u32, u32),
 }
 
-/// The candidate that a call with these arguments chooses, where its place expects a result or expects none: the one that fits
+/// The candidate that a call with these arguments chooses, where its context expects a result or expects none: the one that fits
 /// and whose `in` and `once` types are subtypes of those of every other candidate that fits, `out` types being equal. It
 /// takes no memory.
 ///
-/// Each candidate is looked at a few times. But where several fit and none is chosen, each candidate up to `i` is compared
-/// with those that follow it, and an open argument that stands at parameters of several modes may make each pair be
+/// Each candidate is looked at a few times. But if several fit and none is chosen, each candidate up to `i` is compared
+/// with those that follow it, and an open argument for parameters of several modes may make each pair be
 /// compared.
 pub fn choose(
     cands: &[CandidateSignature],

@@ -5,7 +5,7 @@ ghost use Rattle.std.specs.Cmp.Lexicographic.{pointwise};
 ghost use Rattle.sa_overload.specs.Conflict.{args_clash, do_conflict, types_clash};
 
 use sa_ast::{ModeTy, Ty};
-use sa_types::{Sig, is_abstract};
+use sa_subst::{Sig, is_abstract};
 
 /// Whether two signatures conflict: name, number of arguments, modes and presence of a result are equal, and each pair of
 /// argument types is equal or both abstract. It takes no memory.

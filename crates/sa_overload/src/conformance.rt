@@ -1,12 +1,12 @@
-//! When a signature conforms to another: whoever calls by the other may be answered by the first.
+//! When a signature conforms to another: a call that is typed by the other may run the first.
 
 ghost use Rattle.std.specs.Prelude.{◌≡◌};
 ghost use Rattle.std.specs.Cmp.Lexicographic.{pointwise};
 ghost use Rattle.sa_overload.specs.Conformance.{arg_conforms, does_conform, result_conforms, type_conforms};
 
 use sa_ast::{Mode, ModeTy, Ty};
+use sa_subst::Sig;
 use sa_subtypes::SubtypeRelation;
-use sa_types::Sig;
 
 /// Whether signature `f` conforms to `g`: name, number, modes and presence of a result are equal, each `in` and `once` type
 /// of `g` is a subtype of `f`'s, `inout` types are equal, each `out` type of `f` is a subtype of `g`'s, and `f`'s result is a

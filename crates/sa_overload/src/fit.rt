@@ -1,4 +1,4 @@
-//! Which candidates of a call fit it: number, modes and presence of a result agree, and each argument's type goes to the
+//! Which candidates of a call fit it: number, modes and presence of a result agree, and each argument's type is assignable to the
 //! type of its parameter.
 
 ghost use Rattle.std.specs.Prelude.{◌≡◌};
@@ -19,15 +19,15 @@ pub struct CandidateSignature {
 /// An argument of a call.
 #[derive(Drop)]
 pub struct ActualArg {
-    /// `Out` and `Inout` as they are written at the call, and `In` where neither is.
+    /// `Out` and `Inout` as they are written at the call, and `In` if neither is.
     pub mode: Mode,
-    /// Its type. An argument that takes its type from its place has none yet, and fits every type.
+    /// Its type. An argument that takes its type from its context has none yet, and fits every type.
     pub ty: Option<Ty>,
     /// Whether it is left open, as in a `bind`. Such an argument fits every mode.
     pub left: bool,
 }
 
-/// Whether a candidate fits a call with these arguments, whose place expects a result or expects none.
+/// Whether a candidate fits a call with these arguments, whose context expects a result or expects none.
 pub fn fits(
     cand: &CandidateSignature,
     args: &[ActualArg],
@@ -79,7 +79,7 @@ fn takes_type(param: &ModeTy, given: &Ty, edges: &SubtypeRelation) -> bool
     }
 }
 
-/// Whether arguments of the two modes are written alike at a call, where nothing stands before those of `in` and `once`.
+/// Whether arguments of the two modes are written alike at a call, where nothing is written before those of `in` and `once`.
 fn is_written_alike(one: Mode, other: Mode) -> bool
     ensures { result ≡ is_written_alike one other }
 {

@@ -1,4 +1,4 @@
-//! The candidate that fits and is at least as specific as every other one that fits, where there is one such candidate.
+//! The candidate that fits and is at least as specific as every other one that fits, if there is one such candidate.
 
 ghost use Rattle.std.specs.Prelude.{◌≢◌, ℕ, ◌<◌, ◌≤◌, IfSome, IsNone, IsTrue, length};
 ghost use Rattle.sa_overload.specs.Candidates.{call_in};
@@ -19,9 +19,9 @@ pub fn leader(call: &Candidates) -> Option<usize>
     }
 }
 
-/// The first candidate from a place on that leads.
+/// The first candidate from an index on that leads.
 ///
-/// One that doesn't lead has an objector, which it isn't before. That one is asked first about the next candidate: where
+/// One that doesn't lead has an objector, which it isn't at least as specific as. That one is asked first about the next candidate: if
 /// subtypes are an order, it objects to each candidate between the two, so that none of them needs a search of its own.
 fn next_leader(call: &Candidates, from: usize, asked_first: Option<usize>) -> Option<usize>
     requires fit { IfSome asked_first (λ j. IsTrue (fits_at (call_in call.now) j)) }
@@ -43,7 +43,7 @@ fn next_leader(call: &Candidates, from: usize, asked_first: Option<usize>) -> Op
     None
 }
 
-/// A candidate that fits and that candidate `k` isn't before: the one asked first, or the next one behind `k`, or the first
+/// A candidate that fits and that `k` isn't at least as specific as: the one asked first, or the next one after `k`, or the first
 /// one.
 fn objector(call: &Candidates, k: usize, asked_first: Option<usize>) -> Option<usize>
     requires within { k < length call.now.cands.now }
@@ -63,7 +63,7 @@ fn objector(call: &Candidates, k: usize, asked_first: Option<usize>) -> Option<u
     }
 }
 
-/// The first candidate in a stretch of them, which doesn't hold `k`, that fits and that candidate `k` isn't before.
+/// The first candidate in a range of them without `k` that fits and that candidate `k` isn't at least as specific as.
 fn objector_in(call: &Candidates, k: usize, from: usize, to: usize) -> Option<usize>
     requires apart { (j : ℕ) → from ≤ j → j < to → j ≢ k }
     ensures found { IfSome result (λ j. Objects (call_in call.now) k j) }

@@ -22,7 +22,7 @@ pub fn first_tie(call: &Candidates) -> Option<(usize, usize)>
     None
 }
 
-/// The first candidate behind one that fits such that neither of them is strictly more specific.
+/// The first candidate after one that fits such that neither of them is strictly more specific.
 fn tie_of(call: &Candidates, i: usize) -> Option<usize>
     requires { IsTrue (fits_at (call_in call.now) i) }
     ensures found { IfSome result (λ j. Tied (call_in call.now) i j) }

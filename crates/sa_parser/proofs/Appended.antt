@@ -1,4 +1,4 @@
--- Classes behind others, with their contracts: what is made of all of them is what is made of each, one behind the other.
+-- Classes after others, with their contracts: what is made of all of them is what is made of each, one after the other.
 use Rattle.std.proofs.Common.{◌≡◌, ℕ, suc, ◌+◌, List, [], ◌∷◌, ◌++◌, length, map, refl, sym, ap, ◌∙◌, append_assoc, arith}
 use Rattle.std.proofs.lemmas.List.{map-append, length-map}
 use Rattle.sa_ast.specs.declared.class.Class.{Class}
@@ -24,7 +24,7 @@ pub same_parsed : (parsed : ParsedFiles) (classes : List Class) (contracts : Lis
     → parsed.contracts ≡ contracts → parsed ≡ record { classes = classes; contracts = contracts }
 same_parsed parsed classes contracts a b = rw (← a, ← b) refl
 
--- what is made of some classes, and behind it that of more, which begin at this place
+-- what is made of some classes, and after it that of more, which begin at this index
 pub appended : (first place : ℕ) (all more : List Written) (before after : ParsedFiles) (classes : List Class) (contracts : List Contract)
     → before ≡ parsed_of first all → place ≡ first + length before.classes
     → classes ≡ map class_of more → contracts ≡ contracts_from place more

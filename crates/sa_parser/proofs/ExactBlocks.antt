@@ -1,4 +1,4 @@
--- Lists of statements and statements that hold others, as their forms read them: a lemma for each alternative.
+-- Lists of statements and statements that contain others, as their forms read them: a lemma for each alternative.
 use Rattle.std.proofs.Common.{◌≡◌, ◌≢◌, ℕ, ◌+◌, List, [], ◌∷◌, ◌++◌, Option, Some, None, unwrap_or, Result, refl, sym, ap, ◌∙◌}
 use Rattle.sa_lexer.specs.declared.token.TokenKind.TheVariants as token
 use Rattle.sa_lexer.specs.declared.word.Word.{Word}
@@ -46,7 +46,7 @@ both-with f g second (Read a rest) = second-with (f a) g (second rest)
 both-with f g second (Refused rest) = refl
 
 module _ (t : Tokens) where
-  -- ---- a word, and what is behind it
+  -- ---- a word, and what is after it
 
   pub behind_word : {A : Type 0} (w : Word) (form : Lexeme → Form A) (other : Form A) (at : ℕ) → kind_at t.list.now at ≡ Some (token.Word w) → {v : Reading A}
       → Runs t (form (lexeme_at t at (token.Word w))) (at + 1) v → Runs t (shift (is_word w) form other) at v
@@ -168,9 +168,9 @@ module _ (t : Tokens) where
       let body = body_read word.Loop from mid list h in
       behind_word word.Loop loop_form refuse from body.0 (stops t (word_unclosed t mid (taken t body.1) other))
 
-  -- ---- what is behind "when" each time
+  -- ---- what is after "when" each time
 
-  -- what was read so far: nothing yet, or behind the first "when"
+  -- what was read so far: nothing yet, or what follows the first "when"
   pub data Whens {A : Type 0} (item : Form A) (from : ℕ) (all : List A) (next : ℕ) : Type 0 where
     none_yet : next ≡ from → all ≡ [] → Whens item from all next
     some_read : kind_at t.list.now from ≡ Some (token.Word word.When) → Parts t (is_word word.When) item (from + 1) all next → Whens item from all next

@@ -1,4 +1,4 @@
--- Lists of statements, as their forms read them, and which form of a statement its first token tells.
+-- Lists of statements, as their forms read them, and which form of a statement its first token chooses.
 use Rattle.std.proofs.Common.{◌≡◌, ◌≢◌, ℕ, ◌+◌, Bool, true, false, List, [], ◌∷◌, ◌++◌, Option, Some, None, ◌⊎◌, inl, inr, refl, sym, ap, ◌∙◌, append_assoc}
 use Rattle.std.proofs.lemmas.List.{append-nil}
 use Rattle.sa_lexer.specs.declared.token.TokenKind.{TokenKind}
@@ -65,7 +65,7 @@ joined-more (first ∷ lists) one = ap (λ rest. first ++ rest) (joined-more lis
 module _ (t : Tokens) where
   -- ---- a statement that may be absent
 
-  -- where something begins a token stands
+  -- where something begins there is a token
   pub begun : (at : ℕ) → begins_statement (kind_at t.list.now at) ≡ true → (kind : TokenKind) × (kind_at t.list.now at ≡ Some kind)
   begun at begins = some_begins (kind_at t.list.now at) begins
 
@@ -81,10 +81,10 @@ module _ (t : Tokens) where
   no_stmt at none =
       takes t (second_one t (shut_by t (opens stmt_form) at (λ kind there. stmt_opens (lexeme_at t at kind) ∙ ap begins_statement (sym there) ∙ none)) (gives t))
 
-  -- ---- lists that are put behind one another
+  -- ---- lists that are appended
 
   module _ {A : Type 0} (test : Lexeme → Bool) (item : Form (List A)) where
-    -- what was read up to a place
+    -- what was read up to an index
     pub record Joins (from : ℕ) (all : List A) (next : ℕ) : Type 0 where
       pub lists : List (List A)
       pub parts : Parts t test item from lists next
@@ -118,7 +118,7 @@ module _ (t : Tokens) where
 
   -- ---- lists of statements
 
-  -- the statements that were read up to a place
+  -- the statements that were read up to an index
   abbrev pub StmtsRead : ℕ → List Stmt → ℕ → Type 0
   StmtsRead from list next = Joins (is_sign sign.Semicolon) optional_stmt_form from list next
 
@@ -149,7 +149,7 @@ module _ (t : Tokens) where
 
   -- ---- which statement
 
-  -- what is read behind the word, where it stands
+  -- what is read after the word, where there is one
   following : {A : Type 0} (w : Word) (form : Lexeme → Form A) (at : ℕ) → kind_at t.list.now at ≡ Some (token.Word w) → {v : Reading A}
       → Runs t (shift (is_word w) form refuse) at v → Runs t (form (lexeme_at t at (token.Word w))) (at + 1) v
   following w form at there r = record { is = one_reading t (behind_word t w form refuse at there (runs t (form (lexeme_at t at (token.Word w))) (at + 1))) r }
@@ -184,7 +184,7 @@ module _ (t : Tokens) where
       another t kind there refl (another t kind there refl (another t kind there refl (another t kind there refl
       (behind_word t word.Protect protect_form _ at there (following word.Protect protect_form at there r)))))
 
-  -- behind the words that open the others
+  -- after the words that open the others
   after_words : (w : Word) (at : ℕ) → kind_at t.list.now at ≡ Some (token.Word w) → is_word word.If (lexeme (token.Word w)) ≡ false → is_word word.Loop (lexeme (token.Word w)) ≡ false
       → is_word word.Case (lexeme (token.Word w)) ≡ false → is_word word.Typecase (lexeme (token.Word w)) ≡ false → is_word word.Protect (lexeme (token.Word w)) ≡ false
       → {v : Reading Stmt} → Runs t (leave_or simple_form) at v → Runs t stmt_form at v

@@ -1,4 +1,4 @@
--- Classes and what stands in them, as their forms read them: a lemma for each alternative that a reader decides by the token that stands
+-- Classes and what is in them, as their forms read them: a lemma for each alternative that a reader decides by the token that is
 -- there.
 use Rattle.std.proofs.Common.{◌≡◌, ◌≢◌, ℕ, ◌+◌, Bool, true, false, ◌||◌, List, [], ◌∷◌, ◌++◌, map, Option, Some, None, Result, Ok, Err}
 use Rattle.std.proofs.Common.{refl, sym, ap, ◌∙◌}
@@ -100,7 +100,7 @@ module _ (t : Tokens) where
       takes t
       (second_one t (also_shut is_feature (opens sig_form) (λ l none. ap (λ b. b || false) none) (lexemes_from t at) shut) (gives t))
 
-  -- the features that were read up to a place
+  -- the features that were read up to an index
   abbrev pub SignaturesRead : ℕ → List Feature → ℕ → Type 0
   SignaturesRead from features next = Joins t (is_sign sign.Semicolon) optional_sig_form from features next
 
@@ -137,7 +137,7 @@ module _ (t : Tokens) where
       next_join_refused t (is_sign sign.Semicolon) optional_sig_form from mid features so_far
       (token.Sign sign.Semicolon) semicolon (sign_is sign.Semicolon) r
 
-  -- ---- what stands between the `is` and the `end`
+  -- ---- what comes between the `is` and the `end`
 
   -- "is", and a form up to the "end"
   abbrev pub inside_form : {A : Type 0} → Form A → Form A
@@ -211,7 +211,7 @@ module _ (t : Tokens) where
   abbrev pub of_members : ClassKind → Head → List Declaration → Written
   of_members kind head members = record { kind = kind; head = head; signatures = []; members = members }
 
-  -- the class that its members stand in
+  -- the class that has the members
   abbrev pub around : FileKind → ClassKind → Head → Enclosing
   around file_kind kind head = record { name = head.name.name; kind = kind; file_kind = file_kind }
 
@@ -245,7 +245,7 @@ module _ (t : Tokens) where
       concrete_there file_kind kind at there
       (follows t (taken t first) (inside_refused (members_form (around file_kind kind head)) (of_members kind head) mid r))
 
-  -- behind the word of a kind, or where there is none
+  -- after the word of a kind, or where there is none
   pub behind_kind : (file_kind : FileKind) (from mid : ℕ) (kind : ClassKind) → KindAt t.list.now from kind mid → {v : Reading Written}
       → Runs t (concrete_form file_kind kind) mid v → Runs t (concrete_class_form file_kind) from v
   behind_kind file_kind from _ _ (immutable_there there) r = met t (token.Word word.Immutable) there refl r

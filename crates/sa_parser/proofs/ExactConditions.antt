@@ -1,4 +1,4 @@
--- Clauses and invariants, as their forms read them: a lemma for each alternative that a reader decides by the token that stands there.
+-- Clauses and invariants, as their forms read them: a lemma for each alternative that a reader decides by the token that is there.
 use Rattle.std.proofs.Common.{◌≡◌, ◌≢◌, ℕ, ◌+◌, ◌<◌, List, length, Option, Some, None, bytes_eq, Result, Ok, Err, IfOk, IfErr, inl, inr}
 use Rattle.std.proofs.Common.{refl, ap, ◌∙◌}
 use Rattle.std.specs.Prelude.{codes}
@@ -132,7 +132,7 @@ module _ (t : Tokens) where
 
   -- ---- invariants
 
-  -- what is behind each of the tokens in front of the condition
+  -- what is after each of the tokens before the condition
   abbrev pub behind_return : Form Condition
   behind_return = follow (condition_form Plain) closing_form
 
@@ -179,7 +179,7 @@ module _ (t : Tokens) where
   pub no_bool : (at : ℕ) {rest : List Lexeme} → Runs t (name_as is_bool) at (Refused rest) → Runs t behind_colon at (Refused rest)
   no_bool at r = unnamed t is_bool _ at r
 
-  -- the tokens in front of the condition, one behind another
+  -- the tokens before the condition, one after another
   pub past_colon : (from at : ℕ) → kind_at t.list.now from ≡ Some (token.Sign sign.Colon) → at ≡ from + 1 → {v : Reading Condition}
       → Runs t behind_colon at v → Runs t holding_form from v
   past_colon from at colon next r = colon_there from colon (rw next at r)

@@ -1,4 +1,4 @@
--- What several names share: a tree for each of them, each with a copy of what stands behind their colon, which is read once for each
+-- What several names share: an AST for each of them, each with a copy of what is after their colon, which is read once for each
 -- name and is the same each time.
 use Rattle.std.proofs.Common.{◌≡◌, ◌≢◌, ℕ, ◌+◌, List, [], ◌∷◌, ◌++◌, map, length, Some, refl, sym, ap, ◌∙◌, append_assoc, arith}
 use Rattle.std.proofs.lemmas.List.{append-nil}
@@ -40,7 +40,7 @@ abbrev pub sharing_form : {A B : Type 0} → Form A → (A → Local → B) → 
 sharing_form form of = follow names_form (λ all. shift (is_sign sign.Colon) (λ _. make (λ one. map (of one) all) form) refuse)
 
 module _ (t : Tokens) where
-  -- a tree for each of so many names, each with a copy of what was read behind them
+  -- an AST for each of so many names, each with a copy of what was read after them
   pub data CopiesRead {A B : Type 0} (form : Form A) (of : A → Local → B) (at : ℕ) (yielded : List Local) (all : List B) (end : ℕ)
       : Type 0 where
     no_copy : yielded ≡ [] → all ≡ [] → CopiesRead form of at yielded all end

@@ -1,5 +1,5 @@
 -- Attributes, shareds and constants, as their forms read them: a lemma for each alternative that a reader decides by the token that
--- stands there. What several names share is read once for each of them, and is the same each time.
+-- is there. What several names share is read once for each of them, and is the same each time.
 use Rattle.std.proofs.Common.{◌≡◌, ◌≢◌, ℕ, suc, ◌+◌, List, [], ◌∷◌, ◌++◌, length, Option, Some, None, Result, Err, refl, sym}
 use Rattle.std.proofs.Common.{ap, ◌∙◌, arith}
 use Rattle.sa_lexer.specs.declared.token.TokenKind.TheVariants as token
@@ -59,7 +59,7 @@ module _ (t : Tokens) where
   never : {A B : Type 0} (form : Form A) (other : Form B) (at from next : ℕ) (a : A) (e : Rejection) → Takes form t at a next
       → ReadsAst form t at (Err e) → ReadsAs other t from (Err e)
   never form other at from next a (fault.Refused refusal) h k = let same = sym h.is ∙ k.is in absurd (cc)
-  never form other at from next a fault.NoMemory h k = tt
+  never form other at from next a (fault.Failed why) h k = tt
 
   pub never_refused : {A B : Type 0} {r : Result (B × ℕ) Rejection} (form : Form A) (other : Form B) (at from next : ℕ) (a : A)
       (e : Rejection) → r ≡ Err e
@@ -119,7 +119,7 @@ module _ (t : Tokens) where
   typed_constant access name from mid next one e features first gets last same =
       rw same (takes t (typed_behind access name from mid one first (gets_there access name one mid gets (makes t next (taken t last)))))
 
-  -- the names behind the first one that were read up to a place
+  -- the names after the first one that were read up to an index
   pub data OthersRead (mid : ℕ) : List Local → ℕ → Type 0 where
     no_others : OthersRead mid [] mid
     some_others : {others : List Local} {next : ℕ} → kind_at t.list.now mid ≡ Some (token.Sign sign.Comma)
@@ -152,7 +152,7 @@ module _ (t : Tokens) where
   other_refused mid at others no_others comma r = others_behind mid comma (first_refused t r)
   other_refused mid at others (some_others first l) comma r = others_behind mid first (next_refused t l comma r)
 
-  -- the constants that were read up to a place, with the value that they share, and the number of the last one
+  -- the constants that were read up to an index, with the value that they share, and the number of the last one
   pub record ConstantsRead (access : Access) (first : Local) (from : ℕ) (features : List Feature) (number next : ℕ) : Type 0 where
     pub value : Option Expr
     pub mid : ℕ

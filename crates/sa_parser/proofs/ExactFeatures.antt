@@ -1,5 +1,5 @@
 -- Features and other members of classes, as their forms read them: a lemma for each alternative that a reader decides by the token that
--- stands there.
+-- is there.
 use Rattle.std.proofs.Common.{◌≡◌, ◌≢◌, ℕ, ◌+◌, Bool, true, false, List, Some, Ok, Err, Result, ◌⊎◌, inl, inr, refl, sym, ap, ◌∙◌}
 use Rattle.sa_lexer.specs.declared.token.TokenKind.TheVariants as token
 use Rattle.sa_lexer.specs.declared.word.Word.{Word}
@@ -71,7 +71,7 @@ module _ (t : Tokens) where
 
   -- ---- routines, stubs and built-in features
 
-  -- what is behind the signature of a routine, and behind its clauses
+  -- what is after the signature of a routine, and after its clauses
   abbrev pub behind_clauses : Access → HeaderSignature → Clauses → Form Declaration
   behind_clauses access sig clauses = make (λ body. member.Called (feature_of sig access (part.Routine body)) clauses) whole_body_form
 
@@ -96,7 +96,7 @@ module _ (t : Tokens) where
       → Takes (builtin_form name access) t from (member.Called feature no_clauses) next
   builtin name access from next sig feature inside same = rw same (takes t (makes t next (taken t inside)))
 
-  -- the form of a stub, behind its word
+  -- the form of a stub, after its word
   abbrev pub stub_form : Access → Form Declaration
   stub_form access = make (λ sig. member.Called (feature_of sig access part.Stub) no_clauses) sig_form
 
@@ -195,7 +195,7 @@ module _ (t : Tokens) where
       → Runs t (declared_or access refuse) at (Refused (lexemes_from t at))
   none_declared access at no_attr no_shared = past_declared access refuse at no_attr no_shared (refused t)
 
-  -- where one of these words stands, it doesn't matter which form is the other one
+  -- where one of these words is, it doesn't matter which form is the other one
   declared_instead : (access : Access) (other : Form Declaration) (at : ℕ) (one : Word) → kind_at t.list.now at ≡ Some (token.Word one)
       → (one ≡ word.Attr) ⊎ (one ≡ word.Shared) → {v : Reading Declaration} → Runs t (declared_or access refuse) at v
       → Runs t (declared_or access other) at v
@@ -208,9 +208,9 @@ module _ (t : Tokens) where
       let first = shared_there access refuse at shared (runs t (make member.Variables (shared_form access)) (at + 1)) in
       shared_there access other at shared (record { is = sym first.is ∙ r.is })
 
-  -- ---- behind the words of access
+  -- ---- after the words of access
 
-  -- what is read where neither an attribute nor a shared stands
+  -- what is read where there is neither an attribute nor a shared
   abbrev pub behind_declared : Enclosing → Access → Form Declaration
   behind_declared class access =
       shift (is_word word.Const) (λ _. make member.Variables (constants_form access))

@@ -70,7 +70,7 @@ put_more first place all more one before after was at made single classes contra
     (contracts_made place one more made single) classes contracts
 
 module _ (t : Tokens) (file_kind : FileKind) (first : ℕ) where
-  -- the classes that were read up to a place, and what is made of them
+  -- the classes that were read up to an index, and what is made of them
   pub record ParsedTo (parsed : ParsedFiles) (next : ℕ) : Type 0 where
     pub written : List Written
     pub read : Joins t (is_sign sign.Semicolon) (optional_class_form file_kind) 0 written next
@@ -103,7 +103,7 @@ module _ (t : Tokens) (file_kind : FileKind) (first : ℕ) where
         (singles t file_kind (mid + 1) next h.written h.taken) classes contracts;
   }
 
-  -- the classes up to a place where no other one follows
+  -- the classes up to an index where no other one follows
   pub file_taken : (next : ℕ) (parsed : ParsedFiles) (so_far : ParsedTo parsed next) → kind_at t.list.now next ≢ Some (token.Sign sign.Semicolon)
       → Takes (file_form file_kind) t 0 so_far.written next
   unfolding file_form
@@ -127,7 +127,7 @@ module _ (t : Tokens) (file_kind : FileKind) (first : ℕ) where
 
   -- ---- what is read of the file
 
-  -- at the end of the file no token stands
+  -- at the end of the file there is no token
   pub ended : (at : ℕ) → kind_at t.list.now at ≡ None → length t.list.now ≤ at
   ended at none = elim (slice_get_cases t.list.now at).1 [
     | inl found ↦
@@ -164,7 +164,7 @@ module _ (t : Tokens) (file_kind : FileKind) (first : ℕ) where
       → FileReads t.file t.src.now t.list.now file_kind first (Err e)
   unfolding lexemes_from
   file_refused (fault.Refused refusal) h = rw h.fault (refused h.at h.is)
-  file_refused fault.NoMemory h = tt
+  file_refused (fault.Failed why) h = tt
 
   -- a class is refused
   pub class_refused : (at : ℕ) (e : Rejection) (r : Result ParsedFiles Rejection) → r ≡ Err e
@@ -173,17 +173,17 @@ module _ (t : Tokens) (file_kind : FileKind) (first : ℕ) where
       → FileReads t.file t.src.now t.list.now file_kind first r
   class_refused at e r is h step = rw is (file_refused e (handed_on t (optional_class_form file_kind) at e refl h step))
 
--- ---- behind the rules of words and levels
+-- ---- after the rules of words and levels
 
 pub scanned : (file : ℕ) (text : List ℕ) (tokens : List Token) (file_kind : FileKind) (first : ℕ) (r : Result ParsedFiles Rejection)
     → AreTaken tokens (length tokens)
     → FileReads file text tokens file_kind first r → Parses file text tokens file_kind first r
 scanned file text tokens file_kind first (Ok parsed) taken h = h
 scanned file text tokens file_kind first (Err (fault.Refused refusal)) taken h = inr (taken, h)
-scanned file text tokens file_kind first (Err fault.NoMemory) taken h = tt
+scanned file text tokens file_kind first (Err (fault.Failed why)) taken h = tt
 
 pub scan_refused : (file : ℕ) (text : List ℕ) (tokens : List Token) (file_kind : FileKind) (first : ℕ) (e : Rejection)
     (r : Result ParsedFiles Rejection) → r ≡ Err e
     → RefusesTokens tokens file e → Parses file text tokens file_kind first r
 scan_refused file text tokens file_kind first (fault.Refused refusal) r is h = rw is (inl h)
-scan_refused file text tokens file_kind first fault.NoMemory r is h = rw is tt
+scan_refused file text tokens file_kind first (fault.Failed why) r is h = rw is tt

@@ -1,5 +1,5 @@
--- What stands in front of the `is` of a class, as its forms read it: a lemma for each alternative that a reader decides by the token
--- that stands there.
+-- What comes before the `is` of a class, as its forms read it: a lemma for each alternative that a reader decides by the token
+-- that is there.
 use Rattle.std.proofs.Common.{◌≡◌, ◌≢◌, ℕ, ◌+◌, List, [], Some, None, refl, ap, ◌∙◌}
 use Rattle.sa_lexer.specs.declared.token.TokenKind.TheVariants as token
 use Rattle.sa_lexer.specs.declared.sign.Sign.{Sign}
@@ -25,7 +25,7 @@ use Rattle.sa_parser.proofs.ExactNames.{NameAt, unnamed}
 module _ (t : Tokens) where
   -- ---- parameters
 
-  -- what is behind the name of a parameter
+  -- what is after the name of a parameter
   abbrev pub behind_param : Local → Form TypeParam
   behind_param name =
       shift (is_sign sign.Less) (λ _. make (λ one. record { name = name; bound = Some one }) (nest type))
@@ -59,7 +59,7 @@ module _ (t : Tokens) where
   unfolding params_form
   no_params at all other empty = rw empty (takes t (not_met t (shut_sign t sign.LeftBrace at other) (gives t)))
 
-  -- ---- types behind a sign
+  -- ---- types after a sign
 
   pub behind_sign : (s : Sign) (at : ℕ) → kind_at t.list.now at ≡ Some (token.Sign s) → {v : Reading (List Ty)}
       → Runs t (list (nest type)) (at + 1) v
@@ -96,7 +96,7 @@ module _ (t : Tokens) where
 
   -- ---- heads
 
-  -- what is behind the name and the parameters of an abstract class
+  -- what is after the name and the parameters of an abstract class
   abbrev pub behind_abstract_params : Local → List TypeParam → Form Head
   behind_abstract_params name params =
       follow (types_after_form sign.Less)
@@ -122,7 +122,7 @@ module _ (t : Tokens) where
   unfolding abstract_head_form
   no_abstract from r = unnamed t is_abstract_name _ from r
 
-  -- what is behind the name of a concrete class
+  -- what is after the name of a concrete class
   abbrev pub behind_concrete : Local → Form Head
   behind_concrete name =
       follow params_form

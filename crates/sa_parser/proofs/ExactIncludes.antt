@@ -1,4 +1,4 @@
--- Includes, as their forms read them: a lemma for each alternative that a reader decides by the token that stands there.
+-- Includes, as their forms read them: a lemma for each alternative that a reader decides by the token that is there.
 use Rattle.std.proofs.Common.{◌≡◌, ◌≢◌, ℕ, ◌+◌, true, false, ◌||◌, Bool, List, [], ◌∷◌, Some, None, refl, sym, ap, ◌∙◌}
 use denote.Enum.Bare.{sameb}
 use Rattle.sa_lexer.specs.declared.token.TokenKind.TheVariants as token
@@ -55,7 +55,7 @@ private_is ReadOnly = refl
 module _ (t : Tokens) where
   -- ---- new names
 
-  -- what stands in front of a new name says its access
+  -- what comes before a new name says its access
   pub data Begins (from : ℕ) : Access → ℕ → Type 0 where
     private_word : kind_at t.list.now from ≡ Some (token.Word word.Private) → Begins from Private (from + 1)
     readonly_word : kind_at t.list.now from ≡ Some (token.Word word.Readonly) → Begins from ReadOnly (from + 1)
@@ -142,7 +142,7 @@ module _ (t : Tokens) where
       → Runs t (shift (is_sign sign.Arrow) (λ _. changed_form f) refuse) at (Refused (lexemes_from t at))
   no_arrow f at other = not_met t (shut_sign t sign.Arrow at other) (refused t)
 
-  -- behind the name and the arrow
+  -- after the name and the arrow
   pub behind_both : (from mid third : ℕ) (name : Local) (n : NameAt t is_feature from name) → mid ≡ from + 1
       → kind_at t.list.now mid ≡ Some (token.Sign sign.Arrow)
       → third ≡ mid + 1 → {v : Reading FeatureModifier} → Runs t (changed_form (lexeme_at t from n.stood.kind)) third v → Runs t change_form from v

@@ -39,7 +39,7 @@ use Rattle.sa_parser.specs.SignatureForms.{sig_form}
 use Rattle.sa_parser.specs.Starts.{begins_member, is_prelude}
 use Rattle.sa_parser.proofs.Appended.{from_nothing}
 
--- ---- what is made of members, with one more behind them
+-- ---- what is made of members, with one more after them
 
 last_more : (all : List Condition) (holds : Condition) → last_of (all ++ holds ∷ []) ≡ Some holds
 last_more [] holds = refl
@@ -56,7 +56,7 @@ none_last [] = refl
 none_last (a ∷ []) = refl
 none_last (a ∷ b ∷ more) = none_last (b ∷ more)
 
--- where the features of the members behind one begin
+-- where the features of the members after one begin
 moved : (m : Declaration) (members : List Declaration) (place : ℕ)
     → place + length (features_of m) + length (flat_map features_of members)
     ≡ place + length (features_of m ++ flat_map features_of members)
@@ -177,7 +177,7 @@ may_occur Program b h = (refl, h)
 
 module _ (t : Tokens) where
   module _ (name : List ℕ) (kind : ClassKind) (file_kind : FileKind) where
-    -- the class that the members stand in
+    -- the class that has the members
     abbrev pub of : Enclosing
     of = record { name = name; kind = kind; file_kind = file_kind }
 
@@ -191,7 +191,7 @@ module _ (t : Tokens) where
         ap (λ b. opens (member_form of b) l) (sym (none_last (flat_map invariants_of others)))
         ∙ kind_opens kind file_kind name (found_in others) l.kind l.bytes l.pos
 
-    -- an invariant stands there only where one may
+    -- an invariant is there only where one is allowed
     pub where_invariant : (others : List Declaration) (at : ℕ)
         → begins_member kind file_kind (found_in others) (kind_at t.list.now at) ≡ true
         → kind_at t.list.now at ≡ Some (token.Word word.Invariant) → (file_kind ≡ Program) × (none_yet others ≡ true)
@@ -223,11 +223,11 @@ module _ (t : Tokens) where
 
   -- ---- lists of members
 
-  -- the members behind some, with these in front
+  -- the members after some, with these before them
   abbrev pub more_form : Enclosing → List Declaration → Lexeme → Form (List Declaration)
   more_form class all l = make (λ more. all ++ more) (optional_member_form class (none_yet all))
 
-  -- the members that were read up to a place
+  -- the members that were read up to an index
   pub record MembersRead (class : Enclosing) (from : ℕ) (all : List Declaration) (next : ℕ) : Type 0 where
     pub first : List Declaration
     pub mid : ℕ
@@ -277,9 +277,9 @@ module _ (t : Tokens) where
       (turn_refused t (is_sign sign.Semicolon) (more_form class) so_far.turns (token.Sign sign.Semicolon) semicolon
       (sign_is sign.Semicolon) (stops t r))
 
-  -- ---- the inside that is made of the members
+  -- ---- the class body that is made of the members
 
-  -- the members that were read up to a place, and the inside that is made of them
+  -- the members that were read up to an index, and the class body that is made of them
   pub record InsideRead (class : Enclosing) (place from : ℕ) (inside : ClassBody) (next : ℕ) : Type 0 where
     pub members : List Declaration
     pub read : MembersRead class from members next

@@ -1,4 +1,4 @@
--- A name that is read, and the token that it is; and what a form reads at a place, once.
+-- A name that is read, and the token that it is; and what a form reads at an index, once.
 use Rattle.std.proofs.Common.{◌≡◌, ◌≢◌, ℕ, ◌+◌, Bool, List, [], sym}
 use Rattle.sa_ast.specs.declared.stmt.Local.{Local}
 use Rattle.sa_parser_expr.specs.declared.tokens.Tokens.{Tokens}
@@ -20,7 +20,7 @@ tree_of : {A : Type 0} {a b : A} {ls ms : List Lexeme} → Read a ls ≡ Read b 
 tree_of e = cc
 
 module _ (t : Tokens) where
-  -- one form reads one tree at a place
+  -- one form reads one AST at an index
   pub same_taken : {A : Type 0} {form : Form A} {at next other : ℕ} {a b : A} → Takes form t at a next → Takes form t at b other → a ≡ b
   same_taken h k = tree_of (one_reading t (taken t h) (taken t k))
 

@@ -1,4 +1,4 @@
--- Signatures, as their forms read them: a lemma for each alternative that a reader decides by the token that stands there.
+-- Signatures, as their forms read them: a lemma for each alternative that a reader decides by the token that is there.
 use Rattle.std.proofs.Common.{◌≡◌, ◌≢◌, ℕ, ◌+◌, List, [], Option, Some, None, IfSome, subst}
 use Rattle.sa_lexer.specs.declared.token.TokenKind.{TokenKind}
 use Rattle.sa_lexer.specs.declared.token.TokenKind.TheVariants as token
@@ -77,7 +77,7 @@ module _ (t : Tokens) where
 
   -- ---- signatures
 
-  -- what is behind the name of a feature
+  -- what is after the name of a feature
   abbrev pub behind_name : CallableKind → Local → Form HeaderSignature
   behind_name callable name =
       follow (arguments_form callable)

@@ -1,5 +1,5 @@
--- Names and statements that hold no others, as their forms read them: a lemma for each alternative that a reader decides by the token
--- that stands there.
+-- Names and statements that contain no others, as their forms read them: a lemma for each alternative that a reader decides by the token
+-- that is there.
 use Rattle.std.proofs.Common.{◌≡◌, ◌≢◌, ℕ, ◌+◌, Bool, true, false, List, [], ◌∷◌, Option, Some, None, Result, Ok, Err, ◌⊎◌, inl, inr, refl, sym, ap, ◌∙◌}
 use Rattle.std.proofs.lemmas.Bool.{false_from_ne_true}
 use Rattle.sa_lexer.specs.declared.token.TokenKind.{TokenKind}
@@ -144,7 +144,7 @@ module _ (t : Tokens) where
   expr_there at kind there begins r onward =
       first_one t (meets_by t (opens (expr_form Plain outside)) at kind there (expr_opens (lexeme_at t at kind) ∙ ap begins_expression (sym there) ∙ begins)) (onward (as_form r))
 
-  -- where something begins a token stands
+  -- where something begins there is a token
   pub begun : (at : ℕ) → begins_expression (kind_at t.list.now at) ≡ true → (kind : TokenKind) × (kind_at t.list.now at ≡ Some kind)
   begun at begins = some_begins (kind_at t.list.now at) begins
 
@@ -220,7 +220,7 @@ module _ (t : Tokens) where
 
   -- ---- what a statement is that begins with no word
 
-  -- a name with others, or with a colon behind it
+  -- a name with others, or with a colon after it
   abbrev first_name : ℕ → Local
   first_name at = name_of (lexeme_at t at token.Lower)
 
@@ -337,7 +337,7 @@ module _ (t : Tokens) where
       → Takes value_form t (from + 1) e next → pos ≡ pos_at t from → Takes (leave_or refuse) t from (tree.Assert e pos) next
   asserts from next e pos there inside occurs = rw occurs (takes t (behind_assert refuse from there (makes t next (taken t inside))))
 
-  -- no word of these stands there
+  -- no word of these is there
   pub stays : (other : Form Stmt) (at : ℕ) → kind_at t.list.now at ≢ Some (token.Word word.Return) → kind_at t.list.now at ≢ Some (token.Word word.Yield)
       → kind_at t.list.now at ≢ Some (token.Word word.Quit) → kind_at t.list.now at ≢ Some (token.Word word.Raise) → kind_at t.list.now at ≢ Some (token.Word word.Assert)
       → {v : Reading Stmt} → Runs t other at v → Runs t (leave_or other) at v

@@ -28,7 +28,7 @@ use Rattle.sa_parser.specs.Names.{IsLower, IsName, IsMoreNames, IsNames, name_at
 use Rattle.sa_parser.specs.Statements as stmts
 use Rattle.sa_parser.specs.Statements.{IsValue, IsValues, IsAssigned, IsOptionalExpr, IsSimple, IsLeave, IsBody, IsStmts, IsOptionalStmt, IsStmt, IsArms, IsArm, IsEnding, IsElse, IsCaseChoice, IsCaseArms, IsCaseArm, IsTypeChoice, IsBranches, IsBranch}
 
--- ---- one more of a list, behind those before
+-- ---- one more of a list, after those before
 
 IsMoreNames-more : {ls : List Lexeme} {comma : Lexeme} (l : Lexeme) {ns : List Local} → IsMoreNames ls ns → IsSign sign.Comma comma → IsLower l → IsMoreNames (ls ++ comma ∷ l ∷ []) (ns ++ name_of l ∷ [])
 IsMoreNames-more l names.no_more_names comma is = names.more_names comma is names.no_more_names
@@ -68,7 +68,7 @@ IsBranches-more {ms = ms} {w = c} {arm = arm} stmts.no_branch when more =
 IsBranches-more {ms = ms} {w = c} (stmts.more_branches {ls = before} {ms = following} first one rest) when more =
     rw (append_assoc before following (c ∷ ms)) (stmts.more_branches first one (IsBranches-more rest when more))
 
--- ---- a name in front, as the lexemes that it is
+-- ---- a name at the beginning, as the lexemes that it is
 
 IsName-one : {P : Lexeme → Type 0} {l : Lexeme} {one : Local} → IsName P (l ∷ []) one → P l × (one ≡ name_of l)
 IsName-one (names.one_name is) = (is, refl)
@@ -101,11 +101,11 @@ module _ (t : Tokens) where
   more_names from mid next ns all one comma first second before following pushed =
       rw (parted t from mid next (token.Sign sign.Comma) comma before following, pushed) (IsNames-more first (record { kind = refl }) second)
 
-  -- the same names where they are handed on
+  -- the same names where they are passed on
   pub all_names : (from next : ℕ) (ns all : List Local) → IsNames (between t from next) ns → all ≡ ns → IsNames (between t from next) all
   all_names from next ns all is same = rw same is
 
-  -- ---- statements that hold no others
+  -- ---- statements that contain no others
 
   pub declare : (from mid third next : ℕ) (ns all : List Local) (one : Ty) (value : Option Expr)
       → IsNames (between t from mid) ns → kind_at t.list.now mid ≡ Some (token.Sign sign.Colon) → IsType (between t (mid + 1) third) one
@@ -167,7 +167,7 @@ module _ (t : Tokens) where
 
   -- ---- lists of statements
 
-  -- where the statements are read behind the word
+  -- where the statements are read after the word
   pub body : (w : Word) (from following : ℕ) (r : Result (List Stmt × ℕ) Rejection)
       → kind_at t.list.now from ≡ Some (token.Word w) → following ≡ from + 1
       → IfOk r (λ read. IsFrom t.list.now following read.1) → IfOk r (λ read. IsStmts (between t following read.1) read.0)
@@ -221,7 +221,7 @@ module _ (t : Tokens) where
   pub no_else : (place : ℕ) → IsElse (between t place place) None
   no_else place = rw (none t place) stmts.no_else
 
-  -- ---- the other statements that hold others. Those that begin with a body stand at its word
+  -- ---- the other statements that contain others. Those that begin with a body have the position of their word
 
   pub loop_block : (from mid next : ℕ) (kind : TokenKind) (list : List Stmt) (pos : Pos)
       → kind_at t.list.now from ≡ Some kind → IsBody word.Loop (between t from mid) list → kind_at t.list.now mid ≡ Some (token.Word word.End)

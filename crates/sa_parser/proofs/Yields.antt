@@ -1,4 +1,4 @@
--- What the trees that a form reads have in common: of the members of a class one is an invariant at most.
+-- What the ASTs that a form reads have in common: of the members of a class one is an invariant at most.
 use Rattle.std.proofs.Common.{◌≡◌, ℕ, zero, suc, ◌+◌, ◌≤◌, Bool, true, false, cond, List, [], ◌∷◌, ◌++◌, length, ap, ◌∙◌, arith}
 use Rattle.std.specs.List.{flat_map}
 use Rattle.std.proofs.lemmas.List.{length-append}
@@ -24,7 +24,7 @@ use Rattle.sa_parser.specs.Classes.{Written, invariants_of}
 use Rattle.sa_parser.specs.FeatureForms.{member_form, open_form, declared_or, stub_or, builtin_or, invariant_or, routine_form, include_form}
 use Rattle.sa_parser.specs.Features.{Enclosing}
 
--- a tree that is read has the property
+-- an AST that is read has the property
 abbrev Each : {A : Type 0} → (A → Type 0) → Reading A → Type 0
 Each P (Read a rest) = P a
 Each P (Refused rest) = Unit {0}
@@ -53,7 +53,7 @@ each_repeated P (suc n) test step each a (l ∷ ls) h =
 abbrev count : List Declaration → ℕ
 count all = length (flat_map invariants_of all)
 
--- so many may stand among members
+-- so many are allowed among members
 abbrev most : Bool → ℕ
 most true = 1
 most false = 0
@@ -92,7 +92,7 @@ pub data Singles : List Written → Type 0 where
   one_class : {w : Written} → Single w → Singles (w ∷ [])
 
 module _ (t : Tokens) where
-  -- all trees that a form reads have the property
+  -- all ASTs that a form reads have the property
   record Yields {A : Type 0} (P : A → Type 0) (form : Form A) : Type 0 where
     each : (ls : List Lexeme) → Each P (at_level t form ls)
 
@@ -130,7 +130,7 @@ module _ (t : Tokens) where
     each = λ ls. each_behind Q P (λ a. at_level t (next a)) (at_level t first ls) (h.each ls) (λ a ms q. (k a q).each ms);
   }
 
-  -- any tree
+  -- any AST
   abbrev Any : {A : Type 0} → A → Type 0
   Any a = Unit {0}
 

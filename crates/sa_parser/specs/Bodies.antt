@@ -12,7 +12,7 @@ use Rattle.sa_parser_expr.specs.Positions.{IsAfter, IsUnexpected}
 use Rattle.sa_parser_expr.specs.StatementForms.{body_form}
 use Rattle.sa_parser.specs.Statements.{IsBody}
 
--- it may be called at each place behind this one, and reads at least one token there, which spell the body, or refuses one
+-- it may be called at each index after this one, and reads at least one token there, which spell the body, or refuses one
 pub record NestsBodies (from : ℕ) (pre : Global → Bor Tokens → Word → ℕ → Type 0)
     (post : Global → Bor Tokens → Word → ℕ → Result (List Stmt × ℕ) Rejection → Type 0) : Type 0 where
   pub callable : (alloc : Global) (tokens : Bor Tokens) (word : Word) (at : ℕ) → from < at → pre alloc tokens word at

@@ -84,7 +84,7 @@ signatures_form = make joined (separated (is_sign sign.Semicolon) optional_sig_f
 abbrev pub signatures_inside_form : Form (List Feature)
 signatures_inside_form = shift (is_word word.Is) (λ _. until_word word.End signatures_form) refuse
 
--- [member], as a list, where an invariant may stand or not
+-- [member], as a list, where an invariant is allowed or not
 unfoldable pub optional_member_form : Enclosing → Bool → Form (List Declaration)
 optional_member_form class invariants = either (make (λ m. m ∷ []) (member_form class invariants)) (give [])
 
@@ -108,7 +108,7 @@ members_inside_form class = shift (is_word word.Is) (λ _. until_word word.End (
 
 -- ---- classes
 
--- the kind of class that the word at a place tells, and the place behind the word
+-- the kind of class by the word at an index, and the index after the word
 pub data KindAt (tokens : List Token) (from : ℕ) : ClassKind → ℕ → Type 0 where
   immutable_there : kind_at tokens from ≡ Some (token.Word word.Immutable) → KindAt tokens from Immutable (from + 1)
   partial_there : kind_at tokens from ≡ Some (token.Word word.Partial) → KindAt tokens from Partial (from + 1)

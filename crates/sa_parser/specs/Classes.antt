@@ -122,7 +122,7 @@ invariants_of _ = []
 
 -- ---- classes
 
--- a class as it is written: what stands before its `is`, and its members
+-- a class as it is written: what comes before its `is`, and its members
 pub record Written : Type 0 where
   pub kind : ClassKind
   pub head : Head
@@ -181,30 +181,30 @@ pub data IsFile (file_kind : FileKind) : List Lexeme → List Written → Type 0
 
 -- ---- contracts
 
--- the contract of the feature at a place of the class at a place, if it has one of the two clauses
+-- the contract of the feature at an index of the class at an index, if it has one of the two clauses
 abbrev pub contract_of : ℕ → ℕ → Option Condition → Option Condition → List Contract
 contract_of class feature None None = []
 contract_of class feature pre post = contract.Clauses class feature pre post ∷ []
 
--- the clauses of these members, of which the first feature has this place
+-- the clauses of these members, of which the first feature has this index
 abbrev pub clauses_from : ℕ → ℕ → List Declaration → List Contract
 clauses_from class place [] = []
 clauses_from class place (member.Called feature clauses ∷ members) =
     contract_of class place clauses.pre clauses.post ++ clauses_from class (place + 1) members
 clauses_from class place (m ∷ members) = clauses_from class (place + length (features_of m)) members
 
--- the contracts of the class at a place: the clauses of its features in their order, and behind them its invariant
+-- the contracts of the class at an index: the clauses of its features in their order, and after them its invariant
 abbrev pub contracts_of : ℕ → Written → List Contract
 contracts_of class w = clauses_from class 0 w.members ++ map (contract.Invariant class) (flat_map invariants_of w.members)
 
--- those of these classes, of which the first has this place
+-- those of these classes, the first of which has this index
 abbrev pub contracts_from : ℕ → List Written → List Contract
 contracts_from class [] = []
 contracts_from class (w ∷ others) = contracts_of class w ++ contracts_from (class + 1) others
 
 -- ---- what a reader gives
 
--- the class that members stand in, as the grammar sees it
+-- the class that has the members, as the grammar sees it
 abbrev pub enclosing : ClassContext → Enclosing
 enclosing class = record { name = class.name.now; kind = class.kind; file_kind = class.file_kind }
 
@@ -214,7 +214,7 @@ last_of [] = None
 last_of (a ∷ []) = Some a
 last_of (a ∷ b ∷ others) = last_of (b ∷ others)
 
--- the inside of the class at a place of these members
+-- the body of the class at an index, of these members
 abbrev pub class_body_of : ℕ → List Declaration → ClassBody
 class_body_of class members =
     record {
@@ -224,11 +224,11 @@ class_body_of class members =
       invariant = last_of (flat_map invariants_of members);
     }
 
--- the inside of an abstract class of these signatures
+-- the body of an abstract class, of these signatures
 abbrev pub signed : List Feature → ClassBody
 signed features = record { includes = []; features = features; clauses = []; invariant = None }
 
--- a class of what stands before its `is` and behind it
+-- a class of what comes before its `is` and after it
 abbrev pub whole_with : ClassKind → Head → ClassBody → WholeClass
 whole_with kind head inside =
     record {
@@ -245,22 +245,22 @@ whole_with kind head inside =
       invariant = inside.invariant;
     }
 
--- the class at a place, with its contracts: of the invariants of its members there is one at most
+-- the class at an index, with its contracts: of the invariants of its members there is one at most
 abbrev pub whole_of : ℕ → Written → WholeClass
 whole_of class w =
     record { class = class_of w; clauses = clauses_from class 0 w.members; invariant = last_of (flat_map invariants_of w.members) }
 
--- its contracts: those of its features, and behind them its invariant
+-- its contracts: those of its features, and after them its invariant
 abbrev pub contracts_in : ℕ → WholeClass → List Contract
 contracts_in class whole = whole.clauses ++ map (contract.Invariant class) (option_to_list whole.invariant)
 
--- these classes and their contracts, of which the first class has this place
+-- these classes and their contracts, the first class of which has this index
 abbrev pub parsed_of : ℕ → List Written → ParsedFiles
 parsed_of first written = record { classes = map class_of written; contracts = contracts_from first written }
 
--- ---- one member behind the others
+-- ---- one member after the others
 
--- the clauses of a member whose first feature has this place
+-- the clauses of a member whose first feature has this index
 abbrev pub clauses_at : ℕ → ℕ → Declaration → List Contract
 clauses_at class place (member.Called feature clauses) = contract_of class place clauses.pre clauses.post
 clauses_at class place _ = []

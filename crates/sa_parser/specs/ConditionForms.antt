@@ -34,13 +34,13 @@ clauses_form Program =
 abbrev pub is_bool : Lexeme → Bool
 is_bool l = is_class_name l && bytes_eq l.bytes (codes "BOOL")
 
--- closing = [";"] "end", behind a condition
+-- closing = [";"] "end", after a condition
 unfoldable pub closing_form : Condition → Form Condition
 closing_form holds =
     shift (is_sign sign.Semicolon) (λ _. shift (is_word word.End) (λ _. give holds) refuse)
     (shift (is_word word.End) (λ _. give holds) refuse)
 
--- ":" "BOOL" "is" "return" expr closing, behind the "invariant"
+-- ":" "BOOL" "is" "return" expr closing, after the "invariant"
 unfoldable pub holding_form : Form Condition
 holding_form =
     shift (is_sign sign.Colon)
@@ -49,7 +49,7 @@ holding_form =
     (λ _. shift (is_word word.Return) (λ _. follow (condition_form Plain) closing_form) refuse)
     refuse) refuse) refuse
 
--- a place that is given, with this tree
+-- the index, where one is given, with this AST
 abbrev pub with_ast : {A : Type 0} → A → Result ℕ Rejection → Result (A × ℕ) Rejection
 with_ast tree (Ok next) = Ok (tree, next)
 with_ast tree (Err refusal) = Err refusal

@@ -1,4 +1,4 @@
--- What is to hold: a relation for each production of the grammar of clauses and invariants, with a case for each of its
+-- Conditions: a relation for each production of the grammar of clauses and invariants, with a case for each of its
 -- alternatives.
 use Rattle.std.specs.Prelude.{◌≡◌, List, [], ◌∷◌, ◌++◌, codes, Option, Some, None}
 use Rattle.sa_lexer.specs.declared.token.TokenKind.TheVariants.{ClassName}
@@ -17,7 +17,7 @@ use Rattle.sa_parser.specs.declared.contract.Clauses.{Clauses}
 use Rattle.sa_parser.specs.declared.file.FileKind.{FileKind}
 use Rattle.sa_parser.specs.declared.file.FileKind.TheVariants.{Program}
 
--- expr, outside of any array literal, as what may be given as an argument without a mode. It stands at its first token
+-- expr, outside of any array literal, as what is allowed as an argument without a mode. It has the position of its first token
 pub data IsCondition (scope : ConditionScope) : List Lexeme → Condition → Type 0 where
   condition : {l : Lexeme} {ls : List Lexeme} {e : Expr} → IsArg scope (l ∷ ls) (Value In e)
       → IsCondition scope (l ∷ ls) (record { test = e; pos = l.pos })

@@ -35,11 +35,11 @@ use Rattle.sa_parser.specs.ConditionForms.{clauses_form, holding_form}
 abbrev pub change_to : Lexeme → Access → Option (List ℕ) → FeatureModifier
 change_to f access to = record { from = name_of f; to = to; access = access }
 
--- F, behind the arrow of a change and the words of access
+-- F, after the arrow of a change and the words of access
 unfoldable pub new_name_form : Lexeme → Access → Form FeatureModifier
 new_name_form f access = shift is_feature (λ g. give (change_to f access (Some g.bytes))) refuse
 
--- [["private" | "readonly"] F], behind the arrow of a change
+-- [["private" | "readonly"] F], after the arrow of a change
 unfoldable pub changed_form : Lexeme → Form FeatureModifier
 changed_form f =
     shift (is_word word.Private) (λ _. new_name_form f Private)
@@ -58,13 +58,13 @@ optional_changes_form = either (list change_form) (give [])
 abbrev pub include_of : Bool → Ty → List FeatureModifier → Declaration
 include_of private t changes = member.Include (record { ty = t; private = private; changes = changes })
 
--- type [change {"," change}], behind the "include"
+-- type [change {"," change}], after the "include"
 unfoldable pub include_form : Bool → Form Declaration
 include_form private = follow (nest type) (λ t. make (λ changes. include_of private t changes) optional_changes_form)
 
 -- ---- attributes, shareds and constants
 
--- names ":" type, behind the "attr"
+-- names ":" type, after the "attr"
 unfoldable pub attr_form : Access → Form (List Feature)
 attr_form access =
     follow names_form
@@ -74,7 +74,7 @@ attr_form access =
 unfoldable pub shared_parts_form : Form SharedParts
 shared_parts_form = follow (nest type) (λ t. make (λ value. record { ty = t; value = value }) assigned_form)
 
--- names ":" shared_parts, behind the "shared"
+-- names ":" shared_parts, after the "shared"
 unfoldable pub shared_form : Access → Form (List Feature)
 shared_form access =
     follow names_form
@@ -86,7 +86,7 @@ shared_form access =
 unfoldable pub more_names_form : Form (List Local)
 more_names_form = shift (is_sign sign.Comma) (λ _. names_form) (give [])
 
--- type ":=" expr, behind the name of a constant and the ":"
+-- type ":=" expr, after the name of a constant and the ":"
 abbrev pub typed_constant_of : Access → Local → Form (List Feature)
 typed_constant_of access name =
     follow (nest type)
@@ -94,16 +94,16 @@ typed_constant_of access name =
     (λ _. make (λ e. variable_of access (Some t) (part.Const (Some e) 0) name ∷ []) value_form)
     refuse)
 
--- the same behind a lexeme that is the name
+-- the same after a lexeme that is the name
 unfoldable pub typed_constant_form : Access → Lexeme → Form (List Feature)
 typed_constant_form access l = typed_constant_of access (name_of l)
 
--- [":=" expr] {"," LNAME}, behind the name of a constant
+-- [":=" expr] {"," LNAME}, after the name of a constant
 abbrev pub counted_constants_of : Access → Local → Form (List Feature)
 counted_constants_of access name =
     follow assigned_form (λ value. make (λ others. counted_from 0 access value (name ∷ others)) more_names_form)
 
--- LNAME (":" type ":=" expr | [":=" expr] {"," LNAME}), behind the "const"
+-- LNAME (":" type ":=" expr | [":=" expr] {"," LNAME}), after the "const"
 unfoldable pub constants_form : Access → Form (List Feature)
 constants_form access =
     shift is_lower
@@ -134,24 +134,24 @@ routine_form class access =
     (λ sig. follow (clauses_form class.file_kind)
     (λ clauses. make (λ body. member.Called (feature_of sig access (part.Routine body)) clauses) whole_body_form))
 
--- stub, which stands in partial classes alone, or else another form
+-- stub, which is allowed in partial classes alone, or else another form
 unfoldable pub stub_or : ClassKind → Access → Form Declaration → Form Declaration
 stub_or Partial access other =
     shift (is_word word.Stub) (λ _. make (λ sig. member.Called (feature_of sig access part.Stub) no_clauses) sig_form) other
 stub_or _ access other = other
 
--- sig, behind the "builtin"
+-- sig, after the "builtin"
 abbrev pub builtin_form : List ℕ → Access → Form Declaration
 builtin_form name access =
     make (λ sig. member.Called (feature_of sig access (part.Builtin name sig.name.name)) no_clauses) sig_form
 
--- builtin, which stands in the prelude alone, or else another form
+-- builtin, which is allowed in the prelude alone, or else another form
 unfoldable pub builtin_or : FileKind → List ℕ → Access → Form Declaration → Form Declaration
 builtin_or Prelude name access other =
     shift (is_word word.Builtin) (λ _. builtin_form name access) other
 builtin_or Program name access other = other
 
--- stub | builtin | routine, behind "private" or nothing
+-- stub | builtin | routine, after "private" or nothing
 abbrev pub called_form : Enclosing → Access → Form Declaration
 called_form class access = stub_or class.kind access (builtin_or class.file_kind class.name access (routine_form class access))
 
@@ -160,20 +160,20 @@ abbrev pub is_private : Access → Bool
 is_private Private = true
 is_private _ = false
 
--- attr | shared | const | include | stub | builtin | routine, behind "private" or nothing
+-- attr | shared | const | include | stub | builtin | routine, after "private" or nothing
 unfoldable pub open_form : Enclosing → Access → Form Declaration
 open_form class access =
     declared_or access
     (shift (is_word word.Const) (λ _. make member.Variables (constants_form access))
     (shift (is_word word.Include) (λ _. include_form (is_private access)) (called_form class access)))
 
--- invariant, which the prelude has none of, where one may stand, or else another form
+-- invariant, of which the prelude has none, where one is allowed, or else another form
 unfoldable pub invariant_or : FileKind → Bool → Form Declaration → Form Declaration
 invariant_or Program true other = shift (is_word word.Invariant) (λ _. make member.Invariant holding_form) other
 invariant_or _ _ other = other
 
 -- member = ["private"] (routine | stub | builtin | const | include) | ["private" | "readonly"] (attr | shared) | invariant, where
--- an invariant may stand or not
+-- an invariant is allowed or not
 unfoldable pub member_form : Enclosing → Bool → Form Declaration
 member_form class invariants =
     shift (is_word word.Private) (λ _. open_form class Private)
@@ -181,7 +181,7 @@ member_form class invariants =
 
 -- ---- what readers of members know
 
--- an invariant stands there only where one may stand
+-- an invariant is there only where one is allowed
 abbrev pub IsAllowed : FileKind → Bool → Option TokenKind → Type 0
 IsAllowed file_kind invariants found = found ≡ Some (token.Word word.Invariant) → (file_kind ≡ Program) × (invariants ≡ true)
 
@@ -189,6 +189,6 @@ IsAllowed file_kind invariants found = found ≡ Some (token.Word word.Invariant
 abbrev pub without_clauses : Feature → Declaration
 without_clauses feature = member.Called feature no_clauses
 
--- a new name behind an arrow, as a change of this name
+-- a new name after an arrow, as a change of this name
 abbrev pub renamed : Lexeme → NewName → FeatureModifier
 renamed f new = change_to f new.access new.name

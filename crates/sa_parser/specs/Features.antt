@@ -43,7 +43,7 @@ pub data IsAccess : List Lexeme → Access → Type 0 where
 
 -- ---- includes
 
--- new_name = [["private" | "readonly"] F], behind the arrow of a change
+-- new_name = [["private" | "readonly"] F], after the arrow of a change
 pub data IsNewName : List Lexeme → Access → Option (List ℕ) → Type 0 where
   absent : IsNewName [] Public None
   given : {ls : List Lexeme} {f : Lexeme} {access : Access} → IsAccess ls access → IsFeature f
@@ -84,7 +84,7 @@ pub data IsSharedParts : List Lexeme → SharedParts → Type 0 where
   shared_parts : {ls ms : List Lexeme} {t : Ty} {value : Option Expr} → IsType ls t → IsAssigned ms value
       → IsSharedParts (ls ++ ms) (record { ty = t; value = value })
 
--- attr | shared | const, behind the words of access
+-- attr | shared | const, after the words of access
 pub data IsDeclared : Access → List Lexeme → List Feature → Type 0 where
   attr : {access : Access} {w colon : Lexeme} {ls ms : List Lexeme} {names : List Local} {t : Ty}
       → IsWord word.Attr w → IsNames ls names → IsSign sign.Colon colon → IsType ms t
@@ -93,7 +93,7 @@ pub data IsDeclared : Access → List Lexeme → List Feature → Type 0 where
       → IsWord word.Shared w → IsNames ls names → IsSign sign.Colon colon → IsSharedParts ms parts
       → IsDeclared access (w ∷ ls ++ colon ∷ ms) (map (variable_of access (Some parts.ty) (part.Shared parts.value)) names)
 
--- "const" LNAME (":" type ":=" expr | [":=" expr] {"," LNAME}), behind the words of access
+-- "const" LNAME (":" type ":=" expr | [":=" expr] {"," LNAME}), after the words of access
 pub data IsConstants : Access → List Lexeme → List Feature → Type 0 where
   typed_constant : {access : Access} {w l colon gets : Lexeme} {ls ms : List Lexeme} {t : Ty} {e : Expr}
       → IsWord word.Const w → IsLower l → IsSign sign.Colon colon → IsType ls t → IsSign sign.Assign gets → IsValue ms e
@@ -108,7 +108,7 @@ pub data IsConstants : Access → List Lexeme → List Feature → Type 0 where
 abbrev pub feature_of : HeaderSignature → Access → FeatureBody → Feature
 feature_of sig access part = record { name = sig.name; access = access; formals = sig.formals; result = sig.result; part = part }
 
--- the class that members stand in: its name, its kind, and the kind of its file
+-- the class that has the members: its name, its kind, and the kind of its file
 pub record Enclosing : Type 0 where
   pub name : List ℕ
   pub kind : ClassKind
@@ -119,7 +119,7 @@ pub data IsWholeBody : List Lexeme → List Stmt → Type 0 where
   whole_body : {closing : Lexeme} {ls : List Lexeme} {list : List Stmt} → IsBody word.Is ls list → IsWord word.End closing
       → IsWholeBody (ls ++ closing ∷ []) list
 
--- routine | stub | builtin, behind the word of access. Stubs stand in partial classes alone, and built-in features in the
+-- routine | stub | builtin, after the word of access. Stubs are allowed in partial classes alone, and built-in features in the
 -- prelude alone
 pub data IsCalled (class : Enclosing) : Access → List Lexeme → Feature → Clauses → Type 0 where
   routine : {access : Access} {ls cs ms : List Lexeme} {sig : HeaderSignature} {clauses : Clauses} {body : List Stmt}

@@ -14,7 +14,7 @@ use Rattle.sa_parser.specs.ClassForms.{file_form}
 use Rattle.sa_parser.specs.Classes.{Written, parsed_of}
 
 -- the lexemes of the file, all of them, are these classes as they are written, and what was parsed is made of them. The first class
--- has the place `first`
+-- has the index `first`
 pub record IsRead (file : ℕ) (text : List ℕ) (tokens : List Token) (file_kind : FileKind) (first : ℕ) (parsed : ParsedFiles) : Type 0 where
   pub written : List Written
   pub all : read_as (file_form file_kind) (lexemes_of file text tokens) ≡ Read written []
@@ -32,7 +32,7 @@ pub data IsRefused (file : ℕ) (text : List ℕ) (tokens : List Token) (file_ki
 abbrev pub FileReads : ℕ → List ℕ → List Token → FileKind → ℕ → Result ParsedFiles Rejection → Type 0
 FileReads file text tokens file_kind first (Ok parsed) = IsRead file text tokens file_kind first parsed
 FileReads file text tokens file_kind first (Err (fault.Refused refusal)) = IsRefused file text tokens file_kind (fault.Refused refusal)
-FileReads file text tokens file_kind first (Err fault.NoMemory) = ⊤
+FileReads file text tokens file_kind first (Err (fault.Failed why)) = ⊤
 
 -- the same where no token breaks the rules of words and levels, and else the refusal of the first one that does
 abbrev pub Parses : ℕ → List ℕ → List Token → FileKind → ℕ → Result ParsedFiles Rejection → Type 0
@@ -40,4 +40,4 @@ Parses file text tokens file_kind first (Ok parsed) = IsRead file text tokens fi
 Parses file text tokens file_kind first (Err (fault.Refused refusal)) =
     RefusesTokens tokens file (fault.Refused refusal)
     ⊎ (AreTaken tokens (length tokens) × IsRefused file text tokens file_kind (fault.Refused refusal))
-Parses file text tokens file_kind first (Err fault.NoMemory) = ⊤
+Parses file text tokens file_kind first (Err (fault.Failed why)) = ⊤

@@ -7,7 +7,7 @@ use Rattle.sa_parser_expr.specs.declared.tokens.Tokens.{Tokens}
 use Rattle.sa_parser_expr.specs.Lexemes.{Lexeme, IsSign, name_of}
 use Rattle.sa_parser_expr.specs.Positions.{bytes_at, start_at}
 
--- the token at a place, as a name
+-- the token at an index, as a name
 abbrev pub name_at : Tokens → ℕ → Local
 name_at t at = record {
   name = bytes_at t.src.now t.list.now at;

@@ -37,7 +37,7 @@ abbrev pub is_prelude : FileKind → Bool
 is_prelude Prelude = true
 is_prelude _ = false
 
--- stubs stand in partial classes alone, built-in features in the prelude alone, and an invariant in the program alone, where
+-- stubs are allowed in partial classes alone, built-in features in the prelude alone, and an invariant in the program alone, where
 -- the class has none yet
 abbrev pub word_begins_member : ClassKind → FileKind → Option Condition → Word → Bool
 word_begins_member kind file_kind invariant word.Attr = true

@@ -44,7 +44,7 @@ pub data IsOptionalExpr : List Lexeme → Option Expr → Type 0 where
   no_expr : IsOptionalExpr [] None
   of_expr : {ls : List Lexeme} {e : Expr} → IsValue ls e → IsOptionalExpr ls (Some e)
 
--- simple = LNAME {"," LNAME} ":" type [":=" expr] | LNAME "::=" expr | expr [":=" expr]. An assignment stands at its `:=`
+-- simple = LNAME {"," LNAME} ":" type [":=" expr] | LNAME "::=" expr | expr [":=" expr]. An assignment has the position of its `:=`
 pub data IsSimple : List Lexeme → Stmt → Type 0 where
   declare : {ls ms rest : List Lexeme} {colon : Lexeme} {names : List Local} {t : Ty} {value : Option Expr}
       → IsNames ls names → IsSign sign.Colon colon → IsType ms t → IsAssigned rest value
@@ -65,7 +65,7 @@ pub data IsLeave : List Lexeme → Stmt → Type 0 where
   raise_word : {w : Lexeme} {ls : List Lexeme} {e : Expr} → IsWord word.Raise w → IsValue ls e → IsLeave (w ∷ ls) (tree.Raise e w.pos)
   assert_word : {w : Lexeme} {ls : List Lexeme} {e : Expr} → IsWord word.Assert w → IsValue ls e → IsLeave (w ∷ ls) (tree.Assert e w.pos)
 
--- ---- statements. Those that hold others stand at their word
+-- ---- statements. Those that contain others have the position of their word
 
 mutual
   -- body = WORD stmts

@@ -1,4 +1,4 @@
-//! Statements that hold others: one function for each production of their grammar.
+//! Statements that contain others: one function for each production of their grammar.
 //!
 //! ```text
 //! if          = "if" arms ending
@@ -19,7 +19,7 @@
 //! branch      = type "then" stmts
 //! ```
 //!
-//! Each of the statements stands at its word.
+//! The position of each of the statements is that of its word.
 
 ghost use Rattle.std.specs.Prelude.{◌≡◌, ◌<◌, ◌≤◌, IfErr, IfOk, length};
 ghost use Rattle.sa_lexer.specs.declared.word.Word.TheVariants as word;
@@ -45,14 +45,14 @@ use sa_parser_expr::{Tokens, read_expr, read_type};
 use sqlite_items::Items;
 use std::alloc::Global;
 
-/// What a `case` chooses from, and its `else`.
+/// The arms of a `case`, and its `else`.
 #[derive(Drop)]
 struct CaseChoice {
     arms: Items<CaseArm>,
     rest: Option<Items<Stmt>>,
 }
 
-/// What a `typecase` or a `protect` chooses from, and its `else`.
+/// The branches of a `typecase` or a `protect`, and its `else`.
 #[derive(Drop)]
 struct TypeChoice {
     branches: Items<TypeArm>,

@@ -1,4 +1,4 @@
-//! Bodies: the statements behind a word. The grammar of statements is cut here, where they nest: the functions of its
+//! Bodies: the statements after a word. The grammar of statements is cut here, where they nest: the functions of its
 //! productions take what reads a nested body as a parameter, so that each is proved by itself.
 //!
 //! ```text
@@ -19,13 +19,13 @@ use sa_parser_expr::Tokens;
 use sqlite_items::Items;
 use std::alloc::Global;
 
-/// The productions of a statement that begins behind `from`.
+/// The productions of a statement that begins after `from`.
 #[derive(Clone, Copy)]
 pub(crate) struct Stmts<'a, F> {
     pub(crate) alloc: Global,
     pub(crate) tokens: Tokens<'a>,
     pub(crate) from: u32,
-    /// Reads the body of a word at a place behind `from`.
+    /// Reads the body of a word at an index after `from`.
     pub(crate) nested: F,
 }
 
@@ -43,7 +43,7 @@ impl<F: Fn(Global, &Tokens<'_>, Word, u32) -> Result<(Items<Stmt>, u32), Rejecti
     }
 }
 
-/// `WORD stmts`: the statements behind this word, and the place behind them.
+/// `WORD stmts`: the statements after this word, and the index after them.
 pub(crate) fn read_body(
     alloc: Global,
     tokens: &Tokens<'_>,

@@ -46,7 +46,7 @@ use sa_parser_expr::{Tokens, read_type, read_types};
 use sqlite_items::Items;
 use std::alloc::{AllocError, Global};
 
-/// What stands between the `class` of a class and its `is`.
+/// The header of a class: what comes between its `class` and its `is`.
 #[derive(Drop)]
 struct Head {
     name: Local,
@@ -54,21 +54,21 @@ struct Head {
     edges: DeclaredEdges,
 }
 
-/// The types that a class is declared to be below and above.
+/// The supertypes and the subtypes that a class declares.
 #[derive(Drop)]
 struct DeclaredEdges {
     below: Items<Ty>,
     above: Items<Ty>,
 }
 
-/// What stands between the `is` of a class and its `end`.
+/// The body of a class: what comes between its `is` and its `end`.
 #[derive(Drop)]
 pub(crate) struct ClassBody {
     includes: Items<Include>,
     features: Items<Feature>,
     /// The clauses of the features.
     clauses: Items<Contract>,
-    /// What holds of the class.
+    /// The invariant of the class.
     pub(crate) invariant: Option<Condition>,
 }
 
@@ -85,7 +85,7 @@ impl ClassBody {
         }
     }
 
-    /// Puts what a member of the class at this place gives at the end.
+    /// Adds what a member of the class with this index gives after the others.
     fn put(&mut self, class: u32, member: Declaration) -> Result<(), AllocError>
         requires { length self.old.features < 4294967296 }
         ensures includes { OnOk result (self.new.includes ≡ self.old.includes ++ includes_of member) }
@@ -104,7 +104,7 @@ impl ClassBody {
         }
     }
 
-    /// Puts a feature of the class at this place at the end, and its clauses.
+    /// Adds a feature of the class with this index after the others, and its clauses.
     fn put_called(
         &mut self,
         class: u32,
@@ -153,7 +153,7 @@ fn whole_class(kind: ClassKind, head: Head, inside: ClassBody) -> WholeClass
     }
 }
 
-/// A class, which has this place among the classes.
+/// A class, which has this index among the classes.
 pub(crate) fn class(
     alloc: Global,
     tokens: &Tokens<'_>,
@@ -456,7 +456,7 @@ fn members(
     Ok((inside, next))
 }
 
-/// `[member]`, whose parts are put behind those of the others.
+/// `[member]`, whose parts are added after those of the others.
 fn add_member(
     alloc: Global,
     tokens: &Tokens<'_>,

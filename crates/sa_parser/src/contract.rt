@@ -1,4 +1,4 @@
-//! What is to hold: the clauses of routines, and the invariants of classes. One function for each production of their grammar.
+//! Contracts: the clauses of routines, and the invariants of classes. One function for each production of their grammar.
 //!
 //! ```text
 //! clauses   = [pre] [post]                                         of which the prelude has none
@@ -8,7 +8,7 @@
 //! closing   = [";"] "end"
 //! ```
 //!
-//! `result` and `initial` may stand in the expression of a `post` alone.
+//! `result` and `initial` are allowed in the expression of a `post` alone.
 
 ghost use Rattle.std.specs.Prelude.{◌≡◌, ◌≤◌, IfErr, IfOk, length};
 ghost use Rattle.std.specs.Option.{option_to_list};
@@ -34,7 +34,7 @@ pub(crate) struct Clauses {
 }
 
 impl Clauses {
-    /// Those of a feature for which none is written.
+    /// The clauses of a feature for which none is written.
     pub(crate) fn none() -> Clauses
         ensures { result ≡ no_clauses }
     {
@@ -44,7 +44,7 @@ impl Clauses {
         }
     }
 
-    /// The contract that they are of this feature of this class, if one of them is written.
+    /// The contract of this feature of this class that they make, if one of them is written.
     pub(crate) fn of(self, class: u32, feature: u32) -> Option<Contract>
         ensures { option_to_list result ≡ contract_of class feature self.pre self.post }
     {
@@ -101,7 +101,7 @@ fn clause(
     Ok((Some(condition), next))
 }
 
-/// `expr`, which stands at its first token.
+/// `expr`, which has the position of its first token.
 fn condition(
     alloc: Global,
     tokens: &Tokens<'_>,
@@ -117,7 +117,7 @@ fn condition(
     Ok((Condition { test, pos }, next))
 }
 
-/// `":" "BOOL" "is" "return" expr closing`, behind `invariant`.
+/// `":" "BOOL" "is" "return" expr closing`, after `invariant`.
 pub(crate) fn invariant(
     alloc: Global,
     tokens: &Tokens<'_>,
@@ -135,7 +135,7 @@ pub(crate) fn invariant(
     Ok((holds, after_closing(tokens, next)?))
 }
 
-/// The place behind `[";"] "end"`.
+/// The index after `[";"] "end"`.
 fn after_closing(tokens: &Tokens<'_>, from: u32) -> Result<u32, Rejection>
     ensures next { IfOk result (IsAfter tokens.now.list.now from) }
     ensures refused { IfErr result (IsUnexpected tokens.now.file) }

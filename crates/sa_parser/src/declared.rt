@@ -8,7 +8,7 @@
 //! ```
 //!
 //! Each name is a feature of its own. The type and the initialiser that several names share are read for each of them,
-//! so that each feature has its own. A constant without a written type has no type in the tree; it is the initialiser
+//! so that each feature has its own. A constant without a written type has no type in the AST; it is the initialiser
 //! plus the number of names before it.
 
 ghost use Rattle.std.specs.Prelude.{◌+◌, ◌≡◌, ◌≤◌, IfErr, IfOk, length};
@@ -68,7 +68,7 @@ fn shared_of(alloc: Global, access: Access, name: Local, parts: SharedParts) -> 
     )
 }
 
-/// `LNAME {"," LNAME} ":" type`, behind `attr`.
+/// `LNAME {"," LNAME} ":" type`, after `attr`.
 pub(crate) fn attr(
     alloc: Global,
     tokens: &Tokens<'_>,
@@ -93,7 +93,7 @@ pub(crate) fn attr(
     Ok((features, end))
 }
 
-/// `LNAME {"," LNAME} ":" shared_parts`, behind `shared`.
+/// `LNAME {"," LNAME} ":" shared_parts`, after `shared`.
 pub(crate) fn shared(
     alloc: Global,
     tokens: &Tokens<'_>,
@@ -149,7 +149,7 @@ fn shared_parts(
     Ok((SharedParts { ty, value }, next))
 }
 
-/// `LNAME (":" type ":=" expr | [":=" expr] {"," LNAME})`, behind `const`.
+/// `LNAME (":" type ":=" expr | [":=" expr] {"," LNAME})`, after `const`.
 pub(crate) fn constants(
     alloc: Global,
     tokens: &Tokens<'_>,
@@ -170,7 +170,7 @@ pub(crate) fn constants(
     }
 }
 
-/// `type ":=" expr`, behind the name and its `:`.
+/// `type ":=" expr`, after the name and its `:`.
 fn typed_constant(
     alloc: Global,
     tokens: &Tokens<'_>,
@@ -192,7 +192,7 @@ fn typed_constant(
     Ok((features, next))
 }
 
-/// `[":=" expr] {"," LNAME}`, behind the first name.
+/// `[":=" expr] {"," LNAME}`, after the first name.
 fn counted_constants(
     alloc: Global,
     tokens: &Tokens<'_>,

@@ -1,4 +1,4 @@
-//! The classes and the contracts of a file.
+//! The parser of a file: its classes and their contracts.
 //!
 //! ```text
 //! file = [class] {";" [class]}
@@ -27,18 +27,18 @@ use sa_parser_expr::{Tokens, scan};
 use sqlite_items::Items;
 use std::alloc::{AllocError, Global};
 
-/// What kind of file the classes are of: the prelude, which alone may have built-in features, or a file of the program.
+/// The kind of file that the classes are of: the prelude, which alone may have built-in features, or a file of the program.
 #[derive(Clone, Copy, Debug, PartialEq, Eq)]
 pub enum FileKind {
     Prelude,
     Program,
 }
 
-/// What files declare: classes, and the contracts of these, by their places among them.
+/// The classes that files declare, and their contracts, by the indices of the classes.
 #[derive(Drop)]
 pub struct ParsedFiles {
     pub classes: Items<Class>,
-    /// By class: the clauses of its features in their order, and behind them its invariant.
+    /// By class: the clauses of its features in their order, and after them its invariant.
     pub contracts: Items<Contract>,
 }
 
@@ -52,7 +52,7 @@ impl ParsedFiles {
         }
     }
 
-    /// Puts the class with this place at the end, and its contracts.
+    /// Adds the class with this index after the others, and its contracts.
     fn put(&mut self, place: u32, one: Option<WholeClass>) -> Result<(), AllocError>
         ensures count { OnOk result (length self.new.classes ≤ length self.old.classes + 1) }
         ensures classes { OnOk result (self.new.classes ≡ self.old.classes ++ map (λ one. one.class) (option_to_list one)) }
@@ -72,7 +72,7 @@ impl ParsedFiles {
         self.put_contracts(place, clauses, invariant)
     }
 
-    /// Puts the contracts of the class with this place at the end.
+    /// Adds the contracts of the class with this index after the others.
     fn put_contracts(
         &mut self,
         class: u32,
@@ -91,8 +91,8 @@ impl ParsedFiles {
     }
 }
 
-/// The classes that the tokens of a text spell, and their contracts. The text is that of file `file`, and the place of its first
-/// class is `first`.
+/// The classes that the tokens of a text spell, and their contracts. The text is that of the file with index `file`, and the index
+/// of its first class is `first`.
 ///
 /// `Refused` names the first token that is a word which the profile refuses (E08), or at which the level passes 200
 /// (E07); where there is none, the first token with which the tokens up to it begin no file, or the end of the file
@@ -122,7 +122,7 @@ pub fn parse(
     classes(alloc, &tokens, file_kind, first)
 }
 
-/// `[class] {";" [class]}`, and the end of the file. The place of the first class is `first`.
+/// `[class] {";" [class]}`, and the end of the file. The index of the first class is `first`.
 fn classes(
     alloc: Global,
     tokens: &Tokens<'_>,
@@ -149,7 +149,7 @@ fn classes(
     }
 }
 
-/// `[class]`, which has this place among the classes.
+/// `[class]`, which has this index among the classes.
 fn optional_class(
     alloc: Global,
     tokens: &Tokens<'_>,

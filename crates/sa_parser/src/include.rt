@@ -25,7 +25,7 @@ use sa_parser_expr::{Tokens, read_type};
 use sqlite_items::Items;
 use std::alloc::Global;
 
-/// What stands behind the arrow of a change.
+/// What comes after the arrow of a change.
 #[derive(Drop)]
 struct NewName {
     access: Access,
@@ -42,7 +42,7 @@ fn change_of(left: Local, new: NewName) -> FeatureModifier
     }
 }
 
-/// `type optional_changes`, behind `include` and what stands before it of access.
+/// `type optional_changes`, after `include` and the words of access before it.
 pub(crate) fn include(
     alloc: Global,
     tokens: &Tokens<'_>,

@@ -1,4 +1,4 @@
-//! The classes and the contracts of a file from its tokens.
+//! The parser: the classes and the contracts of a file from its tokens.
 #![tactic(auto)]
 
 mod blocks;

@@ -38,25 +38,25 @@ use sa_parser_expr::Tokens;
 use sqlite_items::Items;
 use std::alloc::Global;
 
-/// The class that members stand in.
+/// The class that has the members.
 #[derive(Clone, Copy)]
 pub(crate) struct ClassContext<'a> {
-    /// Its place among the classes.
+    /// Its index among the classes.
     pub(crate) place: u32,
     pub(crate) name: &'a Name,
     pub(crate) kind: ClassKind,
     pub(crate) file_kind: FileKind,
 }
 
-/// What a member of the grammar gives.
+/// What a member in the sense of the grammar gives.
 #[derive(Drop)]
 pub(crate) enum Declaration {
-    /// A feature of the tree for each of its names.
+    /// A feature of the AST for each of its names.
     Variables(Items<Feature>),
     /// A feature with a signature, and its clauses.
     Called(Feature, Clauses),
     Include(Include),
-    /// What holds of the class.
+    /// The invariant of the class.
     Invariant(Condition),
 }
 
@@ -103,7 +103,7 @@ pub(crate) fn member(
     }
 }
 
-/// What stands behind `["private"]`.
+/// What comes after `["private"]`.
 fn after_access(
     alloc: Global,
     tokens: &Tokens<'_>,
@@ -182,7 +182,7 @@ fn called(
     }
 }
 
-/// `sig`, behind `builtin`.
+/// `sig`, after `builtin`.
 fn builtin(
     alloc: Global,
     tokens: &Tokens<'_>,

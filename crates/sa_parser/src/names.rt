@@ -16,7 +16,7 @@ use sa_lexer::{Sign, TokenKind};
 use sa_parser_expr::Tokens;
 use std::alloc::{AllocError, Global};
 
-/// The token at a place as a name.
+/// The token at an index as a name.
 fn local(alloc: Global, tokens: &Tokens<'_>, at: u32) -> Result<Local, AllocError>
     ensures { IfOk result (λ local. local ≡ name_at tokens.now at) }
 {
@@ -98,7 +98,7 @@ pub(crate) fn abstract_name(
     Ok((local(alloc, tokens, from)?, from + 1))
 }
 
-/// The place behind the class name `BOOL`.
+/// The index after the class name `BOOL`.
 pub(crate) fn after_bool(tokens: &Tokens<'_>, from: u32) -> Result<u32, Rejection>
     ensures next { IfOk result (IsAfter tokens.now.list.now from) }
     ensures alone { IfOk result (λ next. next ≡ from + 1) }

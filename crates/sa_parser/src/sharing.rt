@@ -5,18 +5,19 @@ ghost use Rattle.sa_parser_expr.specs.Exactly.{ReadsAs};
 ghost use Rattle.sa_parser_expr.specs.Forms.{nest, type};
 ghost use Rattle.sa_parser_expr.specs.Positions.{IsAfter, IsUnexpected};
 
-use sa_ast::{NoMemory, Rejection, Ty};
+use failure::{Failure, limit};
+use sa_ast::{Rejection, Ty};
 use sa_parser_expr::{Tokens, read_type};
 use std::alloc::Global;
 
-/// How many bytes of a file may be read for names that share them: a type or an initialiser counts once for each name
-/// that it stands behind.
+/// The most bytes of a file that are read for names that share them: a type or an initialiser counts once for each name
+/// that it follows.
 const LIMIT: u32 = 16_777_216;
 
-/// What may still be read of a file for names that share a type or an initialiser.
+/// How many bytes may still be read of a file for names that share a type or an initialiser.
 ///
-/// Each name has a type and an initialiser of its own in the tree. They are read once for each name, and without a limit
-/// a long one behind many names would take time and memory that grow with the square of the file's size.
+/// Each name has a type and an initialiser of its own in the AST. They are read once for each name, and without a limit
+/// a long one after many names would take time and memory that grow with the square of the file's size.
 #[derive(Drop)]
 pub(crate) struct Sharing {
     left: u32,
@@ -28,16 +29,16 @@ impl Sharing {
         Sharing { left: LIMIT }
     }
 
-    /// Counts the tokens from one place up to another. It fails where the limit is passed.
-    pub(crate) fn count(
-        &mut self,
-        tokens: &Tokens<'_>,
-        from: u32,
-        to: u32,
-    ) -> Result<(), NoMemory> {
+    /// Counts the tokens from one index up to another. It fails where the limit is passed.
+    pub(crate) fn count(&mut self, tokens: &Tokens<'_>, from: u32, to: u32) -> Result<(), Failure> {
         let bytes = tokens.pos(to).at.saturating_sub(tokens.pos(from).at);
-        self.left = self.left.checked_sub(bytes).ok_or(NoMemory)?;
-        Ok(())
+        match self.left.checked_sub(bytes) {
+            Some(left) => {
+                self.left = left;
+                Ok(())
+            }
+            None => limit(),
+        }
     }
 }
 

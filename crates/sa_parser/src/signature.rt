@@ -32,7 +32,7 @@ pub(crate) struct HeaderSignature {
     pub(crate) result: Option<Ty>,
 }
 
-/// What kind of callable a feature is of the name that stands there.
+/// The kind of callable of a feature with the name that is there.
 fn callable_at(tokens: &Tokens<'_>, at: u32) -> CallableKind
     ensures { IfSome (kind_at tokens.now.list.now at) (λ kind. result ≡ callable_of kind) }
 {

@@ -1,4 +1,4 @@
-//! Which token can begin what may be left out: a statement, a member of a class or a class. The end of the file begins
+//! Which token can begin what is optional: a statement, a member of a class or a class. The end of the file begins
 //! nothing.
 
 ghost use Rattle.std.specs.Prelude.{◌≡◌, IsSome};
@@ -37,7 +37,7 @@ pub(crate) fn begins_statement(token: Option<&TokenKind>) -> bool
     }
 }
 
-/// Whether the token begins a member of this class behind these others.
+/// Whether the token begins a member of this class after these others.
 pub(crate) fn begins_member(
     token: Option<&TokenKind>,
     class: ClassContext<'_>,

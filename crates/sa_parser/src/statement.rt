@@ -1,4 +1,4 @@
-//! Lists of statements, and the statements that hold no others: one function for each production of their grammar.
+//! Lists of statements, and the statements that contain no others: one function for each production of their grammar.
 //!
 //! ```text
 //! stmts   = [stmt] {";" [stmt]}
@@ -9,7 +9,8 @@
 //! leave   = "return" [expr] | "yield" [expr] | "quit" | "raise" expr | "assert" expr
 //! ```
 //!
-//! An assignment stands at its `:=`, and a declaration at its first name. What may be assigned isn't decided here.
+//! The position of an assignment is that of its `:=`, and the position of a declaration that of its first name. What may be assigned
+//! isn't decided here.
 
 ghost use Rattle.std.specs.Prelude.{◌≡◌, ◌<◌, ◌≤◌, ◌++◌, IfErr, IfOk, OnOk, length, option_to_list};
 ghost use Rattle.sa_parser.specs.Bodies.{NestsBodies};
@@ -95,7 +96,7 @@ impl<F: Fn(Global, &Tokens<'_>, Word, u32) -> Result<(Items<Stmt>, u32), Rejecti
     }
 }
 
-/// Puts a statement behind these, if there is one.
+/// Adds a statement after these, if there is one.
 fn push_some(list: &mut Vec<Stmt>, stmt: Option<Stmt>) -> Result<(), AllocError>
     ensures { OnOk result (list.new.items ≡ list.old.items ++ option_to_list stmt) }
 {
@@ -108,7 +109,7 @@ fn push_some(list: &mut Vec<Stmt>, stmt: Option<Stmt>) -> Result<(), AllocError>
     }
 }
 
-/// `declare | assign`. Where a lower name stands first, the token behind it tells which.
+/// `declare | assign`. Where a lower name comes first, the token after it decides.
 fn simple(alloc: Global, tokens: &Tokens<'_>, from: u32) -> Result<(Stmt, u32), Rejection>
     ensures next { IfOk result (λ read. IsAfter tokens.now.list.now from read.1) }
     ensures spelled { IfOk result (λ read. IsSimple (between tokens.now from read.1) read.0) }

@@ -1,4 +1,4 @@
--- A form of several alternatives, of which the next lexeme takes none of the first ones: it reads as the form behind them.
+-- A form of several alternatives, of which the next lexeme takes none of the first ones: it reads as the form after them.
 use Rattle.std.proofs.Common.{◌≡◌, ℕ, zero, suc, Bool, false, ◌||◌, Some, None, Result, Ok, Err, refl, sym, ◌∙◌}
 use Rattle.std.proofs.lemmas.Bool.{or_from, or_parts}
 use Rattle.std.proofs.lemmas.Option.{none-some}
@@ -12,7 +12,7 @@ use Rattle.sa_parser_expr.specs.Positions.{kind_at}
 use Rattle.sa_parser_expr.specs.Readings.{Reading, Read, Refused}
 use Rattle.sa_parser_expr.proofs.Runs.{Runs, taken, takes, handed_on, not_met, another, shut_by}
 
--- a form behind its first alternatives, and whether a lexeme is taken by one of them
+-- a form after its first alternatives, and whether a lexeme is taken by one of them
 abbrev pub following_first : {A : Type 0} → ℕ → Form A → Form A
 following_first zero form = form
 following_first (suc n) (shift test go other) = following_first n other
@@ -23,7 +23,7 @@ is_among zero form l = false
 is_among (suc n) (shift test go other) l = test l || is_among n other l
 is_among (suc n) form l = false
 
--- a lexeme that a form doesn't open with is taken by none of its first alternatives, nor by what is behind them
+-- a lexeme that a form doesn't open with is taken by none of its first alternatives, nor by what is after them
 module _ (l : Lexeme) where
   pub none_among : {A : Type 0} (n : ℕ) (form : Form A) → opens form l ≡ false → is_among n form l ≡ false
   none_among zero form h = refl
@@ -61,7 +61,7 @@ module _ (t : Tokens) where
       not_met t (shut_by t test at (λ kind there. absurd (none-some kind (sym end ∙ there)))) (passing_end n other end r)
   passing_end (suc n) _ end r = r
 
-  -- what a form reads at a place is what another one reads at another place
+  -- what a form reads at an index is what another one reads at another index
   pub alike : {A : Type 0} {one other : Form A} {mid at : ℕ} (r : Result (A × ℕ) Rejection)
       → ((v : Reading A) → Runs t one mid v → Runs t other at v) → ReadsAs one t mid r → ReadsAs other t at r
   alike (Ok read) step h = takes t (step (Read read.0 (lexemes_from t read.1)) (taken t h))

@@ -1,4 +1,4 @@
--- An expression that begins with a name is read behind it as it is read with it.
+-- An expression that begins with a name is read after it as it is read with it.
 use Rattle.std.proofs.Common.{◌≡◌, ℕ, List, ◌∷◌, refl, ap, ◌∙◌}
 use Rattle.sa_lexer.specs.declared.token.TokenKind.{TokenKind}
 use Rattle.sa_lexer.specs.declared.token.TokenKind.TheVariants as token

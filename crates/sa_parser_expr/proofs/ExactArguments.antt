@@ -1,5 +1,5 @@
 -- Arguments, indexes and what follows a first, as their forms read them: a lemma for each alternative that a reader decides by the
--- token that stands there.
+-- token that is there.
 use Rattle.std.proofs.Common.{◌≡◌, ◌≢◌, ◌⊎◌, ℕ, ◌+◌, Bool, true, false, ◌||◌, List, [], ◌∷◌, Some, None, Result, refl, sym, ap, ◌∙◌, subst, inl, inr, arith}
 use Rattle.std.proofs.lemmas.Bool.{false_from_ne_true}
 use Rattle.sa_lexer.specs.declared.token.TokenKind.{TokenKind}
@@ -50,7 +50,7 @@ shut_both test other [] h k = tt
 shut_both test other (l ∷ ls) h k = rw (h, k) refl
 
 module _ (t : Tokens) where
-  -- neither a "." nor a "[" stands there
+  -- neither a "." nor a "[" is there
   ends : (at : ℕ) → kind_at t.list.now at ≢ Some (token.Sign sign.Dot) → kind_at t.list.now at ≢ Some (token.Sign sign.LeftBracket)
       → Shut goes_on (lexemes_from t at)
   ends at dot bracket =
@@ -106,7 +106,7 @@ module _ (t : Tokens) (s : ConditionScope) where
       → Takes (nest (expr s outside)) t mid e next → Takes (arg_form s) t at (Value mode e) next
   valued at mid next mode e other gives value = takes t (behind_mode other gives (makes t next (taken t value)))
 
-  -- ---- calls, and the lists of arguments and of places
+  -- ---- calls, and the lists of arguments and of indices
 
   pub behind_paren : (at : ℕ) → kind_at t.list.now at ≡ Some (token.Sign sign.LeftParen) → {v : Reading (List ExprArg)}
       → Runs t (until sign.RightParen (list (arg_form s))) (at + 1) v → Runs t (args_form s) at v
@@ -152,7 +152,7 @@ module _ (t : Tokens) (s : ConditionScope) where
 
   -- ---- what follows a first
 
-  -- one turn: behind a "." or behind a "["
+  -- one iteration: after a "." or after a "["
   abbrev going : Pos × Expr → Lexeme → Form (Pos × Expr)
   going so_far l = going_form (is_sign sign.Dot l) s so_far
 
@@ -168,7 +168,7 @@ module _ (t : Tokens) (s : ConditionScope) where
   behind_bracket so_far at r = r
 
   module _ (x : Where) where
-    -- what was read of a post up to a place: a first, and turns that make the tree so far
+    -- what was read of a post up to an index: a first, and iterations that make the AST so far
     pub record Posts (from : ℕ) (so_far : Expr) (next : ℕ) : Type 0 where
       pub first : Expr
       pub following : ℕ

@@ -1,4 +1,4 @@
--- What an expression begins with, as its form reads it: a lemma for each alternative that a reader decides by the token that stands there.
+-- What an expression begins with, as its form reads it: a lemma for each alternative that a reader decides by the token that is there.
 use Rattle.std.proofs.Common.{◌≡◌, ◌≢◌, ◌⊎◌, ℕ, ◌+◌, true, false, List, [], ◌∷◌, ◌++◌, Option, Some, None}
 use Rattle.std.proofs.Common.{refl, ap, ◌∙◌, inl, inr}
 use Rattle.sa_lexer.specs.declared.token.TokenKind.{TokenKind}
@@ -48,7 +48,7 @@ no_text (token.Text bytes) h = absurd (h bytes refl)
 no_text _ h = refl
 
 module _ (t : Tokens) where
-  -- what stands at a place
+  -- what is at an index
   abbrev HasKind : ℕ → TokenKind → Type 0
   HasKind at kind = kind_at t.list.now at ≡ Some kind
 
@@ -153,7 +153,7 @@ module _ (t : Tokens) where
       passing t 7 (first_form s x) kind there refl
       (met t kind there (sign_is sign.LeftParen) (met_inside t kind there (sign_is sign.LeftParen) r))
 
-  -- what is made of an expression in parentheses, where they may be left out
+  -- what is made of an expression in parentheses, which are optional
   made_of : (s : ConditionScope) (at : ℕ) (absent : Expr) (of : Expr → Expr) → HasSign at sign.LeftParen → {v : Reading Expr}
       → Runs t (make of (parenthesised_form s)) at v → Runs t (optional_form s absent of) at v
   unfolding optional_form parenthesised_form
@@ -247,7 +247,7 @@ module _ (t : Tokens) where
   unfolding class_call_form
   class_refused s at r = stops t (as_form t r)
 
-  -- the alternatives that not every place has
+  -- the alternatives that aren't allowed everywhere
   module _ (s : ConditionScope) (x : Where) {at : ℕ} {v : Reading Expr} (kind : TokenKind) (there : HasKind at kind) where
     passing_items : (x : Where) {other : Form Expr} → is_sign_kind sign.Bar kind ≡ false → Runs t other at v
         → Runs t (items_or s x other) at v

@@ -1,4 +1,4 @@
--- Operators and what stands between them, as their forms read it: a lemma for each alternative that a reader decides by a token.
+-- Operators and what is between them, as their forms read it: a lemma for each alternative that a reader decides by a token.
 use Rattle.std.proofs.Common.{◌≡◌, ◌≢◌, ℕ, ◌+◌, List, Option, Some, None, Result, Ok, Err, refl, sym, ap, ◌∙◌}
 use Rattle.std.specs.Option.{option_and_then}
 use Rattle.std.specs.Prelude.{is_some}
@@ -29,14 +29,14 @@ use Rattle.sa_parser_expr.proofs.Shifts.{Shut}
 use Rattle.sa_parser_expr.proofs.Stretches.{pos_at}
 use Rattle.sa_parser_expr.proofs.Tested.{sign_is}
 
--- what an operation makes of the tree so far, of an operator and of the operand behind it
+-- what an operation makes of the AST so far, of an operator and of the operand after it
 abbrev operand_behind : (TokenKind → Option Operator) → Form Expr → Expr → Lexeme → Form Expr
 operand_behind operators operand a o = make (λ b. tree.Binary (operator_of operators o) a b o.pos) operand
 
 module _ (t : Tokens) where
-  -- ---- operators by what stands at a place
+  -- ---- operators by what is at an index
 
-  -- one of these stands there
+  -- one of these is there
   pub record Operates (operators : TokenKind → Option Operator) (at : ℕ) (op : Operator) : Type 0 where
     pub kind : TokenKind
     pub there : kind_at t.list.now at ≡ Some kind
@@ -58,7 +58,7 @@ module _ (t : Tokens) where
   -- ---- operations, of any operators and operands
 
   module _ (operators : TokenKind → Option Operator) (operand : Form Expr) where
-    -- what was read of an operation up to a place: an operand, and turns of an operator and one more
+    -- what was read of an operation up to an index: an operand, and iterations of an operator and one more
     pub record Operated (from : ℕ) (so_far : Expr) (next : ℕ) : Type 0 where
       pub first : Expr
       pub mid : ℕ
@@ -73,7 +73,7 @@ module _ (t : Tokens) where
       turns = no_turn t (is_operator operators) (operand_behind operators operand) a next;
     }
 
-    -- behind an operator, with what it makes
+    -- after an operator, with what it makes
     step : {mid : ℕ} {op : Operator} (a : Expr) (o : Operates operators mid op) {v : Reading Expr}
         → Runs t (make (λ b. tree.Binary op a b (pos_at t mid)) operand) (mid + 1) v
         → Runs t (operand_behind operators operand a (lexeme_at t mid o.kind)) (mid + 1) v
@@ -111,7 +111,7 @@ module _ (t : Tokens) where
 
   -- ---- operations of each precedence
 
-  -- what was read up to a place of an operation of this precedence
+  -- what was read up to an index of an operation of this precedence
   abbrev pub OperatedBy : Precedence → ConditionScope → Where → ℕ → Expr → ℕ → Type 0
   OperatedBy p s x from so_far next = Operated (operators_of p) (operand_of p s x) from so_far next
 
@@ -138,7 +138,7 @@ module _ (t : Tokens) where
       → Runs t (operation_of p s x) from (Refused rest)
   no_next_operand p s x begun o r = of_precedence p s x (next_operand_refused (operators_of p) (operand_of p s x) begun o r)
 
-  -- ---- operators in front of an operand
+  -- ---- operators before an operand
 
   -- a form that reads what another one does
   as_another : {A : Type 0} {one other : Form A} {at : ℕ} → ((v : Reading A) → Runs t one at v → Runs t other at v)

@@ -1,4 +1,4 @@
--- Types, as their forms read them: a lemma for each alternative that a reader decides by the token that stands there.
+-- Types, as their forms read them: a lemma for each alternative that a reader decides by the token that is there.
 use Rattle.std.proofs.Common.{◌≡◌, ◌≢◌, ℕ, ◌+◌, true, false, ◌||◌, List, [], Option, Some, None, refl, sym, ap, ◌∙◌}
 use Rattle.std.proofs.lemmas.Bool.{false_from_ne_true}
 use denote.Enum.Bare.{sameb}
@@ -141,7 +141,7 @@ module _ (t : Tokens) where
   none_first at class same rout iter =
       not_met t class (not_met t (shut_word t word.Same at same) (not_met t (shut_word t word.Rout at rout) (not_met t (shut_word t word.Iter at iter) (refused t))))
 
-  -- behind the name of a class, and behind the words
+  -- after the name of a class, and after the words
   pub behind_class : (at : ℕ) (c : IsLexemeAt IsClass t at) {v : Reading Ty}
       → Runs t (make (λ given. ty.Named (bytes_at t.src.now t.list.now at) given (pos_at t at)) given_types_form) (at + 1) v → Runs t (nest type) at v
   behind_class at c r = of_form (class_first at c r)
@@ -176,7 +176,7 @@ module _ (t : Tokens) where
       → Runs t (nest type) at (Refused (lexemes_from t at))
   no_type at class same rout iter = of_form (none_first at class same rout iter)
 
-  -- ---- what stands in braces, and behind a colon
+  -- ---- what is in braces, and after a colon
 
   pub behind_brace : (at : ℕ) → kind_at t.list.now at ≡ Some (token.Sign sign.LeftBrace) → {v : Reading (List Ty)}
       → Runs t (until sign.RightBrace (list (nest type))) (at + 1) v → Runs t given_types_form at v

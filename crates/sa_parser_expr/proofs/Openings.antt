@@ -1,4 +1,4 @@
--- Forms that want a lexeme first: what they read says what stands there. And a word behind a form.
+-- Forms that require a lexeme first: what they read says what is there. And a word after a form.
 use Rattle.std.proofs.Common.{◌≡◌, ◌≢◌, ℕ, ◌+◌, Bool, true, false, List, Some, ◌⊎◌, inl, inr, refl, sym, ap, ◌∙◌}
 use Rattle.std.proofs.lemmas.Bool.{cases_Bool, false_from_ne_true}
 use Rattle.std.proofs.lemmas.Option.{slice_get_cases}
@@ -25,7 +25,7 @@ refused_same : (A : Type 0) (ls ms : List Lexeme) → refusal A ls ≡ refusal A
 refused_same A ls ms h = cc
 
 module _ (t : Tokens) where
-  -- a form reads one thing
+  -- what a form reads is unique
   pub one_reading : {A : Type 0} {form : Form A} {at : ℕ} {v w : Reading A} → Runs t form at v → Runs t form at w → v ≡ w
   one_reading r s = sym r.is ∙ s.is
 
@@ -38,7 +38,7 @@ module _ (t : Tokens) where
 
   -- ---- the next lexeme
 
-  -- a token stands at the place that meets the test
+  -- at the index is a token that meets the test
   pub record Stood (test : Lexeme → Bool) (at : ℕ) : Type 0 where
     pub kind : TokenKind
     pub there : kind_at t.list.now at ≡ Some kind
@@ -60,9 +60,9 @@ module _ (t : Tokens) where
       shut_by t is_lower at (λ kind there.
       false_from_ne_true (is_lower (lexeme_at t at kind)) (λ meets. h (there ∙ ap Some (lower_stands (lexeme_at t at kind) meets))))
 
-  -- ---- a lexeme that meets a test, and a form behind it
+  -- ---- a lexeme that meets a test, and a form after it
 
-  -- what was read says that such a lexeme stands there, and what is read behind it
+  -- what was read says that such a lexeme is there, and what is read after it
   pub record Opened {A : Type 0} (test : Lexeme → Bool) (go : Lexeme → Form A) (at : ℕ) (v : Reading A) : Type 0 where
     pub first : Stood test at
     pub rest : Runs t (go (lexeme_at t at first.kind)) (at + 1) v
@@ -82,7 +82,7 @@ module _ (t : Tokens) where
         absurd (cc)
   ]
 
-  -- what is refused is the lexeme there, or refused behind it
+  -- what is refused is the lexeme there, or refused after it
   pub opened_refused : {A B : Type 0} {test : Lexeme → Bool} {go : Lexeme → Form A} {other : Lexeme → Form B} {at : ℕ} {rest : List Lexeme}
       → ((s : Stood test at) → Runs t (go (lexeme_at t at s.kind)) (at + 1) (Refused rest) → Runs t (other (lexeme_at t at s.kind)) (at + 1) (Refused rest))
       → Runs t (shift test go refuse) at (Refused rest) → Runs t (shift test other refuse) at (Refused rest)
@@ -93,7 +93,7 @@ module _ (t : Tokens) where
         not_met t shut (record { is = ap (refusal B) (refused_same A (lexemes_from t at) rest same) })
   ]
 
-  -- ---- a word behind a form
+  -- ---- a word after a form
 
   pub word_closed : {A : Type 0} {form : Form A} {word : Word} {at : ℕ} {a : A} (mid : ℕ) → Runs t form at (Read a (lexemes_from t mid))
       → kind_at t.list.now mid ≡ Some (token.Word word) → Runs t (until_word word form) at (Read a (lexemes_from t (mid + 1)))

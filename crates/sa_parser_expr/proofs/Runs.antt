@@ -1,4 +1,4 @@
--- How forms read the lexemes of a file from a place on: a lemma for each way to make forms, by what stands at the place.
+-- How forms read the lexemes of a file from an index on: a lemma for each way to make forms, by what is at the index.
 use Rattle.std.proofs.Common.{◌≡◌, ◌≢◌, ℕ, suc, ◌+◌, ◌<◌, Bool, true, false, cond, List, [], ◌∷◌, ◌++◌, Some, Ok, Err, length, Result, refl, sym, ap, ◌∙◌, inl, inr, append_assoc, arith}
 use Rattle.std.proofs.lemmas.Bool.{false_from_ne_true}
 use Rattle.std.proofs.lemmas.Option.{slice_get_cases}
@@ -26,7 +26,7 @@ use Rattle.sa_parser_expr.proofs.Tested.{sign_stands, sign_is, word_stands}
 
 -- ---- lists so far
 
--- behind some of a list: a lexeme that meets the test and others, or the end of the list
+-- after some of a list: a lexeme that meets the test and others, or the end of the list
 abbrev listed_on : {A : Type 0} → (Lexeme → Bool) → List A → Reader (List A) → Reader (List A)
 listed_on test all others = shifted test (λ _ ms. with_read (λ more. all ++ more) (others ms)) (λ ms. Read all ms)
 
@@ -54,7 +54,7 @@ listed_on-one test item short n a (l ∷ ls) h =
     (ap (with_read (λ others. a ∷ others)) (listed-same n test item item short (λ ms lt. refl) n (suc n) ls (omega arith) (omega arith) (omega arith)))
     refl
 
--- ---- what is behind a lexeme that has to stand there
+-- ---- what is after a lexeme that is required there
 
 following-cond : {A B : Type 0} (next : A → Reader B) (b : Bool) (v w : Reading A) → following next (cond b v w) ≡ cond b (following next v) (following next w)
 following-cond next true v w = refl
@@ -65,17 +65,17 @@ behind_shifted : {A B : Type 0} (test : Lexeme → Bool) (go : Lexeme → Reader
 behind_shifted test go next [] = refl
 behind_shifted test go next (l ∷ ls) = following-cond next (test l) (go l ls) (Refused (l ∷ ls))
 
--- ---- forms at places
+-- ---- forms at indices
 
 module _ (t : Tokens) where
-  -- a level above the number of lexemes from any place on
+  -- a level greater than the number of lexemes from any index on
   abbrev pub level : ℕ
   level = suc (length t.list.now)
 
   abbrev pub at_level : {A : Type 0} → Form A → Reader A
   at_level form = run level (nested_to level) form
 
-  -- what a form reads of the lexemes from a place on
+  -- what a form reads of the lexemes from an index on
   pub record Runs {A : Type 0} (form : Form A) (at : ℕ) (v : Reading A) : Type 0 where
     pub is : at_level form (lexemes_from t at) ≡ v
 
@@ -104,7 +104,7 @@ module _ (t : Tokens) where
     is = as_read form from ∙ (step (lexemes_from t h.at) (record { is = sym (as_read part mid) ∙ h.is })).is;
     fault = h.fault;
   }
-  delivered part form mid from step fault.NoMemory h = tt
+  delivered part form mid from step (fault.Failed why) h = tt
 
   pub handed_on : {A B : Type 0} {form : Form B} {from : ℕ} {r : Result (B × ℕ) Rejection} (part : Form A) (mid : ℕ) (e : Rejection) → r ≡ Err e → ReadsAs part t mid (Err e)
       → ((rest : List Lexeme) → Runs part mid (Refused rest) → Runs form from (Refused rest)) → ReadsAs form t from r
@@ -121,7 +121,7 @@ module _ (t : Tokens) where
   unfolding lexemes_from
   of_lexemes form from (Ok read) h = h.is
   of_lexemes form from (Err (fault.Refused refusal)) h = (h.at, h.is, h.fault)
-  of_lexemes form from (Err fault.NoMemory) h = tt
+  of_lexemes form from (Err (fault.Failed why)) h = tt
 
   -- ---- tests
 
@@ -159,7 +159,7 @@ module _ (t : Tokens) where
         ∙ shifted_met test (λ l. at_level (go l)) (at_level other) (lexeme_at t at kind) (lexemes_from t (at + 1)) h ∙ r.is;
   }
 
-  -- and back: what is read behind the token
+  -- and back: what is read after the token
   pub met_inside : {A : Type 0} {test : Lexeme → Bool} {go : Lexeme → Form A} {other : Form A} {at : ℕ} {v : Reading A} (kind : TokenKind)
       → kind_at t.list.now at ≡ Some kind → test (lexeme_at t at kind) ≡ true → Runs (shift test go other) at v → Runs (go (lexeme_at t at kind)) (at + 1) v
   met_inside {test = test} {go = go} {other = other} {at = at} kind there h r = record {
@@ -173,7 +173,7 @@ module _ (t : Tokens) where
     is = shifted_shut test (λ l. at_level (go l)) (at_level other) (lexemes_from t at) h ∙ r.is;
   }
 
-  -- another token stands there
+  -- another token is there
   pub another : {A : Type 0} {test : Lexeme → Bool} {go : Lexeme → Form A} {other : Form A} {at : ℕ} {v : Reading A} (kind : TokenKind)
       → kind_at t.list.now at ≡ Some kind → test (lexeme_at t at kind) ≡ false → Runs other at v → Runs (shift test go other) at v
   another {test = test} {at = at} kind there h r = not_met (rw (occurs t at kind there) h) r
@@ -248,7 +248,7 @@ module _ (t : Tokens) where
   -- ---- one or several with a lexeme that meets a test between them
 
   module _ {A : Type 0} (test : Lexeme → Bool) (item : Form A) where
-    -- what was read of a list up to a place
+    -- what was read of a list up to an index
     pub record Parts (from : ℕ) (all : List A) (next : ℕ) : Type 0 where
       pub is : at_level (separated test item) (lexemes_from t from) ≡ listed_on test all (at_level (separated test item)) (lexemes_from t next)
 
@@ -258,7 +258,7 @@ module _ (t : Tokens) where
           ∙ listed_on-one test (at_level item) (short item) level a (lexemes_from t next) (omega (arith, few t next));
     }
 
-    -- behind a lexeme between two
+    -- after a lexeme between two
     pub parts_behind : {from mid : ℕ} {all : List A} → Parts from all mid → (kind : TokenKind) → kind_at t.list.now mid ≡ Some kind → test (lexeme_at t mid kind) ≡ true
         → at_level (separated test item) (lexemes_from t from) ≡ with_read (λ more. all ++ more) (at_level (separated test item) (lexemes_from t (mid + 1)))
     parts_behind {mid = mid} {all = all} l kind there h =
@@ -289,7 +289,7 @@ module _ (t : Tokens) where
 
   -- ---- one or several with `,` between them
 
-  -- what was read of a list up to a place
+  -- what was read of a list up to an index
   abbrev pub Lists : {A : Type 0} → Form A → ℕ → List A → ℕ → Type 0
   Lists item from all next = Parts (is_sign sign.Comma) item from all next
 
@@ -319,10 +319,10 @@ module _ (t : Tokens) where
       → kind_at t.list.now next ≢ Some (token.Sign sign.Comma) → whole ≡ all → Takes (list item) t from whole next
   all_taken l other same = rw same (takes (all_listed l other))
 
-  -- ---- turns, as long as a lexeme meets a test
+  -- ---- iterations, as long as a lexeme meets a test
 
   module _ {A : Type 0} (test : Lexeme → Bool) (step : A → Lexeme → Form A) where
-    -- after some turns from a place on a tree is so far, and others go on at the next place
+    -- after some iterations from an index on this is the AST so far, and others continue at the next index
     pub record Turns (start : A) (from : ℕ) (so_far : A) (next : ℕ) : Type 0 where
       pub is : at_level (repeat test step start) (lexemes_from t from) ≡ at_level (repeat test step so_far) (lexemes_from t next)
 

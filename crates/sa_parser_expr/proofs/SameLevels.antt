@@ -1,4 +1,4 @@
--- Two levels above the number of lexemes read the same.
+-- Two levels greater than the number of lexemes read the same.
 use Rattle.std.proofs.Common.{◌≡◌, ℕ, zero, suc, ◌<◌, ◌≤◌, Bool, true, false, cond, List, [], ◌∷◌, length, refl, ap, ◌∙◌, arith, Option}
 use Rattle.sa_lexer.specs.declared.token.TokenKind.{TokenKind}
 use Rattle.sa_ast.specs.declared.expr.Operator.{Operator}

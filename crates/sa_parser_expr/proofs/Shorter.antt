@@ -1,4 +1,4 @@
--- What is left isn't longer than what was there, and a form that opens with a lexeme takes it.
+-- The rest isn't longer than what was there, and a form that opens with a lexeme takes it.
 use Rattle.std.proofs.Common.{◌≡◌, ℕ, zero, suc, ◌≤◌, Bool, true, false, cond, ◌||◌, List, [], ◌∷◌, length, refl, ap, arith}
 use Rattle.sa_parser_expr.specs.Lexemes.{Lexeme}
 use Rattle.sa_parser_expr.specs.Readings.{Reading, Read, Refused}

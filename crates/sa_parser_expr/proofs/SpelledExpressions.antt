@@ -31,7 +31,7 @@ use Rattle.sa_parser_expr.specs.Expressions as exprs
 use Rattle.sa_parser_expr.specs.Expressions.{GivesMode, IsOperator, IsPrefix, IsTexts, ContinuesTexts, IsOptionalType, IsExpr, IsOperation, IsOperand, IsUnary, IsPower, IsPost, IsIndex, IsCall, IsArgs, IsArgList, IsArg, IsExprs, IsParenthesised, IsFirst}
 use Rattle.sa_parser_expr.proofs.Stretches.{pos_at, none, join, front, alone, front_join, parted, ended, enclosed}
 
--- one more argument, expression and text, behind those before
+-- one more argument, expression and text, after those before
 IsArgList-more : {s : ConditionScope} {ls ms : List Lexeme} {comma : Lexeme} {args : List ExprArg} {arg : ExprArg} → IsArgList s ls args → IsSign sign.Comma comma → IsArg s ms arg → IsArgList s (ls ++ comma ∷ ms) (args ++ arg ∷ [])
 IsArgList-more (exprs.last_arg first) comma more = exprs.more_args first comma (exprs.last_arg more)
 IsArgList-more {s = s} {ms = ms} {comma = c} {arg = arg} (exprs.more_args {ls = before} {ms = following} {comma = d} first parting rest) comma more =
@@ -47,7 +47,7 @@ IsTexts-more l (exprs.last_text is) more = exprs.more_texts is (exprs.last_text 
 IsTexts-more {others = others} l (exprs.more_texts {bytes = before} {others = rest} is following) more =
     rw (append_assoc before rest others) (exprs.more_texts is (IsTexts-more l following more))
 
--- what stands there is of a further kind too
+-- what is there is of another kind too
 pub occurs_as : {P Q : Lexeme → Type 0} {t : Tokens} {at : ℕ} → IsLexemeAt P t at → ((l : Lexeme) → P l → Q l) → IsLexemeAt Q t at
 occurs_as s further = record { kind = s.kind; there = s.there; is = further _ s.is }
 
@@ -128,7 +128,7 @@ module _ (t : Tokens) where
   more_exprs s x from mid next es all e comma first second before following pushed =
       rw (parted t from mid next (token.Sign sign.Comma) comma before following, pushed) (IsExprs-more first (record { kind = refl }) second)
 
-  -- and the same lists where they are handed on
+  -- and the same lists where they are passed on
   pub all_args : (s : ConditionScope) (from next : ℕ) (given all : List ExprArg) → IsArgList s (between t from next) given → all ≡ given → IsArgList s (between t from next) all
   all_args s from next given all is same = rw same is
 
@@ -220,7 +220,7 @@ module _ (t : Tokens) where
   class_call s x from mid next of e class colons call before following =
       rw (parted t from mid next (token.Sign sign.DoubleColon) colons before following) (exprs.class_call class (record { kind = refl }) call)
 
-  -- where it is read behind the `::`
+  -- where it is read after the `::`
   pub class_called : (s : ConditionScope) (x : Enclosure) (from mid following : ℕ) (of : Ty) (r : Result (Expr × ℕ) Rejection)
       → IsType (between t from mid) of → kind_at t.list.now mid ≡ Some (token.Sign sign.DoubleColon) → from ≤ mid → following ≡ mid + 1
       → IfOk r (λ read. IsAfter t.list.now following read.1) → IfOk r (λ read. IsCall s (OfClass of) (between t following read.1) read.0)

@@ -19,7 +19,7 @@ use Rattle.sa_parser_expr.specs.Types as types
 use Rattle.sa_parser_expr.specs.Types.{IsMode, IsType, IsGivenTypes, IsTypes, IsBoundArgs, IsModeTypes, IsModeType, IsBoundResult}
 use Rattle.sa_parser_expr.proofs.Stretches.{pos_at, none, join, front, alone, front_join, parted, enclosed}
 
--- one more type, and one more argument, behind those before
+-- one more type, and one more argument, after those before
 IsTypes-more : {ls ms : List Lexeme} {comma : Lexeme} {ts : List Ty} {t : Ty} → IsTypes ls ts → IsSign sign.Comma comma → IsType ms t → IsTypes (ls ++ comma ∷ ms) (ts ++ t ∷ [])
 IsTypes-more (types.last_type first) comma more = types.more_types first comma (types.last_type more)
 IsTypes-more {ms = ms} {comma = c} (types.more_types {ls = before} {ms = following} {comma = d} first parting rest) comma more =

@@ -1,4 +1,4 @@
--- The lexemes between two places, parted behind their first, at a place between, or in front of their last.
+-- The lexemes between two indices, split after their first, at an index between, or before their last.
 use Rattle.std.proofs.Common.{◌≡◌, ℕ, suc, ◌+◌, ◌-◌, ◌<◌, ◌≤◌, List, [], ◌∷◌, ◌++◌, Option, Some, None, length, take, drop, slice_get, slice_range, ap, ◌∙◌, inl, inr, arith}
 use Rattle.std.specs.Option.{option_map, option_map_or}
 use Rattle.std.proofs.Math.Seq.{take-add, drop-cons}
@@ -37,7 +37,7 @@ slice_range-more {X = X} xs at next x there before =
     let one_more : next - at ≡ suc (next - (at + 1)) = omega arith in
     ap (λ (n : ℕ). take n (drop at xs)) one_more ∙ ap (λ (ys : List X). take (suc (next - (at + 1))) ys) (drop-there xs at x there)
 
--- the position of what stands at a place
+-- the position of what is at an index
 abbrev pub pos_at : Tokens → ℕ → Pos
 pos_at t at = record { file = t.file; at = start_at t.src.now t.list.now at }
 
@@ -82,7 +82,7 @@ module _ (t : Tokens) where
   pub alone : (at : ℕ) (kind : TokenKind) → kind_at t.list.now at ≡ Some kind → between t at (at + 1) ≡ lexeme_at t at kind ∷ []
   alone at kind there = front at (at + 1) kind there (omega arith) ∙ ap (λ (ls : List Lexeme). lexeme_at t at kind ∷ ls) (none (at + 1))
 
-  -- a token in front of two stretches
+  -- a token before two stretches
   pub front_join : (at mid next : ℕ) (kind : TokenKind) → kind_at t.list.now at ≡ Some kind → at < mid → mid ≤ next → between t at next ≡ lexeme_at t at kind ∷ (between t (at + 1) mid ++ between t mid next)
   front_join at mid next kind there before following =
       front at next kind there (omega arith) ∙ ap (λ (ls : List Lexeme). lexeme_at t at kind ∷ ls) (join (at + 1) mid next (omega arith) following)
@@ -92,17 +92,17 @@ module _ (t : Tokens) where
   parted from mid next kind there before following =
       join from mid next before (omega arith) ∙ ap (λ (ls : List Lexeme). between t from mid ++ ls) (front mid next kind there following)
 
-  -- a token behind a stretch
+  -- a token after a stretch
   pub ended : (from mid : ℕ) (kind : TokenKind) → kind_at t.list.now mid ≡ Some kind → from ≤ mid → between t from (mid + 1) ≡ between t from mid ++ lexeme_at t mid kind ∷ []
   ended from mid kind there before =
       join from mid (mid + 1) before (omega arith) ∙ ap (λ (ls : List Lexeme). between t from mid ++ ls) (alone mid kind there)
 
-  -- a token in front of a stretch, and one behind it
+  -- a token before a stretch, and one after it
   pub enclosed : (at mid : ℕ) (opening closing : TokenKind) → kind_at t.list.now at ≡ Some opening → kind_at t.list.now mid ≡ Some closing → at < mid → between t at (mid + 1) ≡ lexeme_at t at opening ∷ (between t (at + 1) mid ++ lexeme_at t mid closing ∷ [])
   enclosed at mid opening closing opens closes before =
       front at (mid + 1) opening opens (omega arith) ∙ ap (λ (ls : List Lexeme). lexeme_at t at opening ∷ ls) (ended (at + 1) mid closing closes (omega arith))
 
-  -- up to its end some token stands at each place
+  -- up to its end some token is at each index
   pub occurrence : (at : ℕ) → at < length t.list.now → (kind : TokenKind) × (kind_at t.list.now at ≡ Some kind)
   unfolding kind_at
   occurrence at within = elim (slice_get_cases t.list.now at).1 [
@@ -110,7 +110,7 @@ module _ (t : Tokens) where
     | inr past ↦ absurd (omega (arith, past.0))
   ]
 
-  -- from a place on: the token there, and those from the next place on; and none at the end
+  -- from an index on: the token there, and those from the next index on; and none at the end
   pub occurs : (at : ℕ) (kind : TokenKind) → kind_at t.list.now at ≡ Some kind → lexemes_from t at ≡ lexeme_at t at kind ∷ lexemes_from t (at + 1)
   unfolding lexemes_from
   occurs at kind there = drop-there (lexemes_of t.file t.src.now t.list.now) at (lexeme_at t at kind) (found at kind there)

@@ -1,4 +1,4 @@
--- One more token behind those that are taken.
+-- One more token after those that are taken.
 use Rattle.std.proofs.Common.{◌≡◌, ℕ, ◌+◌, ◌<◌, ◌≤◌, false, true, List, [], ◌∷◌, ◌++◌, length, take, get_or, sym, ap, ◌∙◌, subst, inl, inr, refl, arith}
 use Rattle.std.proofs.Math.Nat.{eq-or-lt_of_le}
 use Rattle.std.proofs.lemmas.List.{take_more}
@@ -25,14 +25,14 @@ AreTaken-none tokens = record {
 }
 
 module _ (tokens : List Token) (i : ℕ) (t : Token) (lt : i < length tokens) (is : t ≡ get_or tokens i t) where
-  -- the counters behind one more token
+  -- the counters after one more token
   counters_behind-more : counters_after (take (i + 1) tokens) ≡ after (step_of t.kind) (counters_after (take i tokens))
   unfolding counters_after
   counters_behind-more =
       fold_more (λ (cs : List Counter) (token : Token). after (step_of token.kind) cs) [] tokens i t lt
       ∙ ap (λ (u : Token). after (step_of u.kind) (counters_after (take i tokens))) (sym is)
 
-  -- a step from the counters behind i tokens makes those behind one more
+  -- a step from the counters after i tokens makes those after one more
   pub counters_behind-step : (step : Step) (before counters : List Counter) → step ≡ step_of t.kind → counters ≡ after step before → before ≡ counters_after (take i tokens) → counters ≡ counters_after (take (i + 1) tokens)
   counters_behind-step step before counters e made old =
       made ∙ ap (λ (s : Step). after s before) e ∙ ap (after (step_of t.kind)) old ∙ sym counters_behind-more
@@ -40,7 +40,7 @@ module _ (tokens : List Token) (i : ℕ) (t : Token) (lt : i < length tokens) (i
   take-more : take (i + 1) tokens ≡ take i tokens ++ t ∷ []
   take-more = take_more tokens i t lt ∙ ap (λ (u : Token). take i tokens ++ u ∷ []) (sym is)
 
-  -- the levels behind the first i + 1 tokens
+  -- the levels after the first i + 1 tokens
   levels-more : AreTaken tokens i → level_after (take (i + 1) tokens) ≤ 200 → (k : ℕ) → k ≤ i + 1 → level_after (take k tokens) ≤ 200
   levels-more taken level k h = elim (eq-or-lt_of_le h) [
     | inl e ↦ subst (λ (n : ℕ). level_after (take n tokens) ≤ 200) (sym e) level

@@ -1,4 +1,4 @@
--- What is directly around an expression: by the relations of the grammar, and by its forms.
+-- What directly encloses an expression: by the relations of the grammar, and by its forms.
 use Rattle.sa_parser_expr.specs.declared.grammar.Enclosure as code
 use Rattle.sa_parser_expr.specs.declared.grammar.Enclosure.TheVariants.{Open, Items}
 

@@ -25,44 +25,44 @@ use Rattle.sa_parser_expr.specs.Positions.{kind_at, unexpected_at}
 use Rattle.sa_parser_expr.specs.Readings.{Read, Refused}
 use Rattle.sa_parser_expr.specs.Tests.{logical_kind, comparing_kind, adding_kind, multiplying_kind}
 
--- the lexemes of a file from a place on
+-- the lexemes of a file from an index on
 unfoldable pub lexemes_from : Tokens → ℕ → List Lexeme
 lexemes_from t from = drop from (lexemes_of t.file t.src.now t.list.now)
 
--- of the lexemes from a place on the form reads this tree, and leaves those from the next place on
+-- of the lexemes from an index on the form reads this AST, and leaves those from the next index on
 pub record Takes {A : Type 0} (form : Form A) (t : Tokens) (from : ℕ) (tree : A) (next : ℕ) : Type 0 where
   pub is : read_as form (lexemes_from t from) ≡ Read tree (lexemes_from t next)
 
--- of the lexemes from a place on the form refuses the one at another place, or the end of the file; and the refusal is E06 there
+-- of the lexemes from an index on the form refuses the one at another index, or the end of the file; and the refusal is E06 there
 pub record Refuses {A : Type 0} (form : Form A) (t : Tokens) (from : ℕ) (refusal : Rejection) : Type 0 where
   pub at : ℕ
   pub is : read_as form (lexemes_from t from) ≡ Refused (lexemes_from t at)
   pub fault : refusal ≡ unexpected_at t.file t.src.now t.list.now at
 
--- the same result with another tree
+-- the same result with another AST
 abbrev pub map_value : {A B : Type 0} → (A → B) → Result (A × ℕ) Rejection → Result (B × ℕ) Rejection
 map_value f (Ok read) = Ok (f read.0, read.1)
 map_value f (Err refusal) = Err refusal
 
--- a tree with the next place, or a refusal, is what the form reads from a place on. Where memory ran out nothing is said
+-- an AST with the next index, or a refusal, is what the form reads from an index on. Where memory ran out nothing is said
 abbrev pub ReadsAs : {A : Type 0} → Form A → Tokens → ℕ → Result (A × ℕ) Rejection → Type 0
 ReadsAs form t from (Ok read) = Takes form t from read.0 read.1
 ReadsAs form t from (Err (fault.Refused refusal)) = Refuses form t from (fault.Refused refusal)
-ReadsAs form t from (Err fault.NoMemory) = ⊤
+ReadsAs form t from (Err (fault.Failed why)) = ⊤
 
--- the same of all lexemes of a file, where `unexpected` is E06 at a place
+-- the same of all lexemes of a file, where `unexpected` is E06 at an index
 abbrev pub ReadsOf : {A : Type 0} → Form A → List Lexeme → (ℕ → Rejection) → ℕ → Result (A × ℕ) Rejection → Type 0
 ReadsOf form ls unexpected from (Ok read) = read_as form (drop from ls) ≡ Read read.0 (drop read.1 ls)
 ReadsOf form ls unexpected from (Err (fault.Refused refusal)) =
     (at : ℕ) × (read_as form (drop from ls) ≡ Refused (drop at ls)) × (fault.Refused refusal ≡ unexpected at)
-ReadsOf form ls unexpected from (Err fault.NoMemory) = ⊤
+ReadsOf form ls unexpected from (Err (fault.Failed why)) = ⊤
 
 -- the form of a production of expressions that nests
 abbrev pub nested_form : ConditionScope → code.Form → Form Expr
 nested_form s (code_form.Expr around) = nest (expr s (where_of around))
 nested_form s code_form.Post = nest (post s outside)
 
--- the mode that stands in front of the value of an argument, and the place behind it
+-- the mode that is written before the value of an argument, and the index after it
 pub data ModeAt (t : Tokens) (at : ℕ) : Mode → ℕ → Type 0 where
   out_there : kind_at t.list.now at ≡ Some (token.Word word.Out) → ModeAt t at Out (at + 1)
   inout_there : kind_at t.list.now at ≡ Some (token.Word word.Inout) → ModeAt t at Inout (at + 1)
@@ -77,7 +77,7 @@ operators_of Comparing = comparing_kind
 operators_of Adding = adding_kind
 operators_of Multiplying = multiplying_kind
 
--- the one of these that stands at a place
+-- the operator, of these, that is at an index
 abbrev pub operator_at : (TokenKind → Option Operator) → Tokens → ℕ → Option Operator
 operator_at operators t at = option_and_then operators (kind_at t.list.now at)
 

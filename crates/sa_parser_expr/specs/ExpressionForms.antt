@@ -39,7 +39,7 @@ arg_form s =
 unfoldable pub args_form : ConditionScope → Form (List ExprArg)
 args_form s = shift (is_sign sign.LeftParen) (λ _. until sign.RightParen (list (arg_form s))) (give [])
 
--- F [args], behind F
+-- F [args], after F
 unfoldable pub named_form : ConditionScope → ExprReceiver → Lexeme → Form Expr
 named_form s on f = make (λ given. tree.Call on f.bytes given f.pos) (args_form s)
 
@@ -47,11 +47,11 @@ named_form s on f = make (λ given. tree.Call on f.bytes given f.pos) (args_form
 unfoldable pub call_form : ConditionScope → ExprReceiver → Form Expr
 call_form s on = shift is_feature (named_form s on) refuse
 
--- "[" expr {"," expr} "]", behind the "["
+-- "[" expr {"," expr} "]", after the "["
 unfoldable pub indices_form : ConditionScope → Form (List Expr)
 indices_form s = until sign.RightBracket (list (nest (expr s outside)))
 
--- "(" expr ")", behind the "("
+-- "(" expr ")", after the "("
 unfoldable pub inside_form : ConditionScope → Form Expr
 inside_form s = until sign.RightParen (nest (expr s outside))
 
@@ -59,23 +59,23 @@ inside_form s = until sign.RightParen (nest (expr s outside))
 unfoldable pub parenthesised_form : ConditionScope → Form Expr
 parenthesised_form s = shift (is_sign sign.LeftParen) (λ _. inside_form s) refuse
 
--- ["(" expr ")"], and what it makes where it is absent and where it stands
+-- ["(" expr ")"], and what it makes where it is absent and where it is written
 unfoldable pub optional_form : ConditionScope → Expr → (Expr → Expr) → Form Expr
 optional_form s absent of = shift (is_sign sign.LeftParen) (λ _. make of (inside_form s)) (give absent)
 
 -- ---- what an expression begins with
 
--- {text} behind a first one
+-- {text} after a first one
 unfoldable pub texts_form : List ℕ → Form (List ℕ)
 texts_form first = repeat is_text (λ bytes l. give (bytes ++ text_of l)) first
 
--- "|" exprs "|", where it may stand
+-- "|" exprs "|", where it is allowed
 unfoldable pub items_or : ConditionScope → Where → Form Expr → Form Expr
 items_or s outside other =
     shift (is_sign sign.Bar) (λ l. make (λ es. tree.Items es l.pos) (until sign.Bar (list (nest (expr s in_array))))) other
 items_or s in_array other = other
 
--- "result" | "initial" "(" expr ")", where they may stand
+-- "result" | "initial" "(" expr ")", where they are allowed
 unfoldable pub result_or : ConditionScope → Form Expr → Form Expr
 result_or PostClause other =
     shift (is_word word.Result) (λ w. give (tree.Call Implied w.bytes [] w.pos))
@@ -125,7 +125,7 @@ first_form s x =
 abbrev pub goes_on : Lexeme → Bool
 goes_on l = is_sign sign.Dot l || is_sign sign.LeftBracket l
 
--- behind a "." or behind a "[", with the position of the whole form and the form so far
+-- after a "." or after a "[", with the position of the whole form and the form so far
 unfoldable pub going_form : Bool → ConditionScope → Pos × Expr → Form (Pos × Expr)
 going_form true s so_far = make (λ e. (so_far.0, e)) (call_form s (Of so_far.1))
 going_form false s so_far = make (λ places. (so_far.0, tree.Index (Some so_far.1) places so_far.0)) (indices_form s)
@@ -147,7 +147,7 @@ unfoldable pub unary_form : ConditionScope → Where → Form Expr
 unary_form s x =
     shift (is_operator prefix_kind) (λ o. make (λ e. tree.Unary (operator_of prefix_kind o) e o.pos) (nest (unary s x))) (power_form s x)
 
--- operation = operand {operator operand}, to the left, of operators by the kind of their lexeme
+-- operation = operand {operator operand}, left-associative, of operators by the kind of their lexeme
 unfoldable pub operation_form : (TokenKind → Option Operator) → Form Expr → Form Expr
 operation_form operators operand =
     follow operand (repeat (is_operator operators) (λ a o. make (λ b. tree.Binary (operator_of operators o) a b o.pos) operand))

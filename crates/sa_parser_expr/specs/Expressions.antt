@@ -59,7 +59,7 @@ pub data IsOperator : Precedence → Operator → Lexeme → Type 0 where
   adding : {op : Operator} {l : Lexeme} → IsAdding op l → IsOperator Adding op l
   multiplying : {op : Operator} {l : Lexeme} → IsMultiplying op l → IsOperator Multiplying op l
 
--- "-" | "~" in front of an operand
+-- "-" | "~" before an operand
 pub data IsPrefix : Operator → Lexeme → Type 0 where
   negate : {l : Lexeme} → IsSign sign.Minus l → IsPrefix Negate l
   not_sign : {l : Lexeme} → IsSign sign.Tilde l → IsPrefix Not l
@@ -72,7 +72,7 @@ pub data IsTexts : List Lexeme → List ℕ → Type 0 where
   more_texts : {l : Lexeme} {ls : List Lexeme} {bytes others : List ℕ} → l.kind ≡ token.Text bytes → IsTexts ls others
       → IsTexts (l ∷ ls) (bytes ++ others)
 
--- {text} behind a first text: all bytes are these
+-- {text} after a first text: all bytes are these
 abbrev pub ContinuesTexts : List ℕ → List Lexeme → List ℕ → Type 0
 ContinuesTexts first ls bytes = (l : Lexeme) → l.kind ≡ token.Text first → IsTexts (l ∷ ls) bytes
 
@@ -81,7 +81,7 @@ pub data IsOptionalType : List Lexeme → Option Ty → Type 0 where
   no_type : IsOptionalType [] None
   of_type : {ls : List Lexeme} {t : Ty} → IsType ls t → IsOptionalType ls (Some t)
 
--- ---- expressions. The scope says whether `result` and `initial` may stand, and what is directly around them whether a `|`
+-- ---- expressions. The scope says whether `result` and `initial` are allowed, and what is directly around them whether a `|`
 -- begins an array literal
 
 mutual
@@ -89,7 +89,7 @@ mutual
   pub data IsExpr : ConditionScope → Enclosure → List Lexeme → Expr → Type 0 where
     logical_operation : {s : ConditionScope} {x : Enclosure} {ls : List Lexeme} {e : Expr} → IsOperation s Logical x ls e → IsExpr s x ls e
 
-  -- operation = operand {operator operand}, to the left
+  -- operation = operand {operator operand}, left-associative
   pub data IsOperation : ConditionScope → Precedence → Enclosure → List Lexeme → Expr → Type 0 where
     operand : {s : ConditionScope} {p : Precedence} {x : Enclosure} {ls : List Lexeme} {e : Expr} → IsOperand s p x ls e → IsOperation s p x ls e
     operation : {s : ConditionScope} {p : Precedence} {x : Enclosure} {ls ms : List Lexeme} {o : Lexeme} {op : Operator} {a b : Expr}
@@ -116,7 +116,7 @@ mutual
         → IsPost s x ls a → IsSign sign.Caret o → IsPower s x ms b
         → IsPower s x (ls ++ o ∷ ms) (tree.Binary Pow a b o.pos)
 
-  -- post = first {"." F [args] | index}. An index stands at the first token of the whole form
+  -- post = first {"." F [args] | index}. An index has the position of the first token of the whole form
   pub data IsPost : ConditionScope → Enclosure → List Lexeme → Expr → Type 0 where
     first : {s : ConditionScope} {x : Enclosure} {ls : List Lexeme} {e : Expr} → IsFirst s x ls e → IsPost s x ls e
     call_on : {s : ConditionScope} {x : Enclosure} {ls ms : List Lexeme} {dot : Lexeme} {a e : Expr}
@@ -132,7 +132,7 @@ mutual
         → IsSign sign.LeftBracket opening → IsExprs s around.Open ls places → IsSign sign.RightBracket closing
         → IsIndex s (opening ∷ ls ++ closing ∷ []) places
 
-  -- F [args]: the call stands at its name
+  -- F [args]: the call has the position of its name
   pub data IsCall : ConditionScope → ExprReceiver → List Lexeme → Expr → Type 0 where
     named : {s : ConditionScope} {on : ExprReceiver} {f : Lexeme} {ls : List Lexeme} {given : List ExprArg} → IsFeature f → IsArgs s ls given
         → IsCall s on (f ∷ ls) (tree.Call on f.bytes given f.pos)
@@ -220,6 +220,6 @@ abbrev pub IsForm : ConditionScope → Form → List Lexeme → Expr → Type 0
 IsForm s (form.Expr x) = IsExpr s x
 IsForm s form.Post = IsPost s around.Open
 
--- what gives the value behind it this mode, in an argument
+-- what gives the value after it this mode, in an argument
 abbrev pub GivesMode : List Lexeme → Mode → Type 0
 GivesMode ls mode = (s : ConditionScope) (ms : List Lexeme) (e : Expr) → IsExpr s around.Open ms e → IsArg s (ls ++ ms) (Value mode e)

@@ -1,4 +1,4 @@
--- Forms, in which the grammar is read with one lexeme of sight, and how a form is read.
+-- Forms, in which the grammar is read with a lookahead of one lexeme, and how a form is read.
 use Rattle.std.specs.Prelude.{ℕ, zero, suc, Bool, false, cond, ◌||◌, List, [], ◌∷◌}
 use Rattle.sa_lexer.specs.declared.sign.Sign.{Sign}
 use Rattle.sa_lexer.specs.declared.sign.Sign.TheVariants as sign
@@ -13,7 +13,7 @@ use Rattle.sa_parser_expr.specs.Enclosures.{Where}
 use Rattle.sa_parser_expr.specs.Readings.{Reading, Read, Refused}
 use Rattle.sa_parser_expr.specs.Tests.{is_sign, is_word}
 
--- the productions that nest in themselves
+-- the productions that are recursive
 pub data Nested : Type 0 where
   type : Nested
   expr : ConditionScope → Where → Nested
@@ -37,15 +37,15 @@ pub data Form : Type 0 → Type 1 where
   give : {A : Type 0} → A → Form A
   -- what is there is refused
   refuse : {A : Type 0} → Form A
-  -- a lexeme that meets the test is taken, and the form behind it goes on; without one the other form does
+  -- a lexeme that meets the test is taken, and the form after it continues; without one the other form does
   shift : {A : Type 0} → (Lexeme → Bool) → (Lexeme → Form A) → Form A → Form A
   -- the first form where it opens with the next lexeme, and the second one where it doesn't
   either : {A : Type 0} → Form A → Form A → Form A
-  -- one form, and behind it another
+  -- one form, and after it another
   follow : {A B : Type 0} → Form A → (A → Form B) → Form B
   -- one or several, with a lexeme that meets the test between them
   separated : {A : Type 0} → (Lexeme → Bool) → Form A → Form (List A)
-  -- as long as a lexeme meets the test it is taken, and the form behind it makes another tree of the one so far
+  -- as long as a lexeme meets the test it is taken, and the form after it makes another AST of the one so far
   repeat : {A : Type 0} → (Lexeme → Bool) → (A → Lexeme → Form A) → A → Form A
   -- a form, with the position where it begins
   placed : {A : Type 0} → Form A → Form (Pos × A)
@@ -60,11 +60,11 @@ make f form = follow form (λ a. give (f a))
 abbrev pub list : {A : Type 0} → Form A → Form (List A)
 list item = separated (is_sign sign.Comma) item
 
--- a form, and a sign behind it
+-- a form, and a sign after it
 abbrev pub until : {A : Type 0} → Sign → Form A → Form A
 until s form = follow form (λ a. shift (is_sign s) (λ _. give a) refuse)
 
--- a form, and a word behind it
+-- a form, and a word after it
 abbrev pub until_word : {A : Type 0} → Word → Form A → Form A
 until_word w form = follow form (λ a. shift (is_word w) (λ _. give a) refuse)
 
@@ -110,7 +110,7 @@ listed zero test item ls = Refused ls
 listed (suc n) test item ls =
     following (λ a. shifted test (λ _ more. with_read (λ others. a ∷ others) (listed n test item more)) (λ more. Read (a ∷ []) more)) (item ls)
 
--- one less than so many turns at most
+-- one less than so many iterations at most
 abbrev pub repeated : {A : Type 0} → ℕ → (Lexeme → Bool) → (A → Lexeme → Reader A) → A → Reader A
 repeated zero test step a ls = Refused ls
 repeated (suc n) test step a ls = shifted test (λ l more. following (repeated n test step) (step a l more)) (λ more. Read a more) ls

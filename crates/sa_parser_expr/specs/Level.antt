@@ -11,7 +11,7 @@ use Rattle.sa_lexer.specs.declared.sign.Sign.TheVariants as sign
 use Rattle.sa_lexer.specs.declared.word.Word.TheVariants as word
 use Rattle.sa_ast.specs.declared.refusal.Refusal.{Refusal}
 use Rattle.sa_ast.specs.declared.refusal.Rejection.{Rejection}
-use Rattle.sa_ast.specs.declared.refusal.Rejection.TheVariants.{Refused, NoMemory}
+use Rattle.sa_ast.specs.declared.refusal.Rejection.TheVariants.{Refused, Failed}
 use Rattle.sa_ast.specs.declared.rule.Rule.{Rule}
 use Rattle.sa_ast.specs.declared.rule.Rule.TheVariants.{NestedTooDeep, WordNotTaken}
 use Rattle.sa_parser_expr.specs.declared.levels.Counter.{Counter}
@@ -112,7 +112,7 @@ after step.Bar counters = at_bar counters
 after step.Clear counters = []
 after step.Keep counters = counters
 
--- the counters that are open behind these tokens of a file, the innermost one first
+-- the counters that are open after these tokens of a file, the innermost one first
 unfoldable pub counters_after : List Token → List Counter
 counters_after tokens = fold (λ counters (token : Token). after (step_of token.kind) counters) [] tokens
 
@@ -120,7 +120,7 @@ counters_after tokens = fold (λ counters (token : Token). after (step_of token.
 abbrev pub level_of : List Counter → ℕ
 level_of counters = sum_by (λ (c : Counter). c.level) counters
 
--- the level behind these tokens of a file
+-- the level after these tokens of a file
 abbrev pub level_after : List Token → ℕ
 level_after tokens = level_of (counters_after tokens)
 
@@ -132,12 +132,12 @@ is_refused _ = false
 abbrev pub IsTaken : Token → Type 0
 IsTaken token = is_refused token.kind ≡ false
 
--- among the first tokens, so many of them, is no refused word, and behind none of them the level passes 200
+-- among the first tokens, so many of them, is no refused word, and after none of them the level passes 200
 pub record AreTaken (tokens : List Token) (count : ℕ) : Type 0 where
   pub words : All IsTaken (take count tokens)
   pub levels : (k : ℕ) → k ≤ count → level_after (take k tokens) ≤ 200
 
--- the rule that a token breaks behind others: it is a refused word (E08), or the level passes 200 there (E07)
+-- the rule that a token breaks after others: it is a refused word (E08), or the level passes 200 there (E07)
 abbrev pub Breaks : List Token → Token → Rule → Type 0
 Breaks before token rule =
     ((rule ≡ WordNotTaken) × (is_refused token.kind ≡ true))
@@ -155,4 +155,4 @@ pub record IsFirstBreach (tokens : List Token) (refusal : Refusal) : Type 0 wher
 -- a refusal names the first token of the file that breaks a rule, and the rule
 abbrev pub RefusesTokens : List Token → ℕ → Rejection → Type 0
 RefusesTokens tokens file (Refused refusal) = IsFirstBreach tokens refusal × (refusal.pos.file ≡ file)
-RefusesTokens tokens file NoMemory = ⊤
+RefusesTokens tokens file (Failed why) = ⊤

@@ -27,11 +27,11 @@ lexemes_of file text tokens =
     })
     tokens
 
--- those of a file from a place up to another one
+-- those of a file from an index up to another one
 unfoldable pub between : Tokens → ℕ → ℕ → List Lexeme
 between t from next = slice_range (lexemes_of t.file t.src.now t.list.now) from next
 
--- the token of this kind that stands at a place
+-- the token of this kind that is at an index
 abbrev pub lexeme_at : Tokens → ℕ → TokenKind → Lexeme
 lexeme_at t at kind = record {
   kind = kind;
@@ -43,7 +43,7 @@ lexeme_at t at kind = record {
 abbrev pub name_of : Lexeme → Local
 name_of l = record { name = l.bytes; pos = l.pos }
 
--- such a lexeme stands at a place
+-- such a lexeme is at an index
 pub record IsLexemeAt (P : Lexeme → Type 0) (t : Tokens) (at : ℕ) : Type 0 where
   pub kind : TokenKind
   pub there : kind_at t.list.now at ≡ Some kind
@@ -57,12 +57,12 @@ pub record IsWord (word : Word) (l : Lexeme) : Type 0 where
 pub record IsSign (sign : Sign) (l : Lexeme) : Type 0 where
   pub kind : l.kind ≡ token.Sign sign
 
--- C: the name of a class, `$` at its front or not
+-- C: the name of a class, with or without a `$` at its front
 pub data IsClass : Lexeme → Type 0 where
   class_name : {l : Lexeme} → l.kind ≡ token.ClassName → IsClass l
   abstract_name : {l : Lexeme} → l.kind ≡ token.AbstractName → IsClass l
 
--- F: the name of a feature, `!` at its end or not
+-- F: the name of a feature, with or without a `!` at its end
 pub data IsFeature : Lexeme → Type 0 where
   lower_name : {l : Lexeme} → l.kind ≡ token.Lower → IsFeature l
   iter_name : {l : Lexeme} → l.kind ≡ token.IterName → IsFeature l

@@ -12,7 +12,7 @@ use Rattle.sa_parser_expr.specs.Expressions.{IsForm}
 use Rattle.sa_parser_expr.specs.Lexemes.{between}
 use Rattle.sa_parser_expr.specs.Positions.{IsAfter, IsUnexpected}
 
--- it may be called at each place behind this one, and reads at least one token there, which spell the form, or refuses one
+-- it may be called at each index after this one, and reads at least one token there, which spell the form, or refuses one
 pub record Nests (from : ℕ) (pre : Global → Bor Tokens → ConditionScope → Form → ℕ → Type 0)
     (post : Global → Bor Tokens → ConditionScope → Form → ℕ → Result (Expr × ℕ) Rejection → Type 0) : Type 0 where
   pub callable : (alloc : Global) (tokens : Bor Tokens) (scope : ConditionScope) (form : Form) (at : ℕ) → from < at → pre alloc tokens scope form at

@@ -51,7 +51,7 @@ name_form = name_as is_lower
 abbrev pub names_form : Form (List Local)
 names_form = list name_form
 
--- type [":=" expr], behind the names of a declaration and the ":"
+-- type [":=" expr], after the names of a declaration and the ":"
 unfoldable pub typed_form : List Local → Form Stmt
 typed_form names = follow (nest type) (λ t. make (λ value. tree.Declare names (Some t) value) assigned_form)
 
@@ -59,7 +59,7 @@ typed_form names = follow (nest type) (λ t. make (λ value. tree.Declare names 
 unfoldable pub declare_form : Form Stmt
 declare_form = follow names_form (λ names. shift (is_sign sign.Colon) (λ _. typed_form names) refuse)
 
--- "::=" expr, behind the name of a declaration
+-- "::=" expr, after the name of a declaration
 abbrev pub by_value_form : Local → Form Stmt
 by_value_form name = shift (is_sign sign.Declare) (λ _. make (λ e. tree.Declare (name ∷ []) None (Some e)) value_form) refuse
 
@@ -67,15 +67,15 @@ by_value_form name = shift (is_sign sign.Declare) (λ _. make (λ e. tree.Declar
 unfoldable pub declare_by_value_form : Form Stmt
 declare_by_value_form = follow name_form by_value_form
 
--- [":=" expr] behind an expression
+-- [":=" expr] after an expression
 unfoldable pub assign_form : Expr → Form Stmt
 assign_form a = shift (is_sign sign.Assign) (λ gets. make (λ b. tree.Assign a b gets.pos) value_form) (give (tree.ExprStmt a))
 
--- {operator operand} behind a first operand
+-- {operator operand} after a first operand
 abbrev operations : (TokenKind → Option Operator) → Form Expr → Expr → Form Expr
 operations operators operand = repeat (is_operator operators) (λ a o. make (λ b. exprs.Binary (operator_of operators o) a b o.pos) operand)
 
--- an expression that begins with this name, behind the name
+-- an expression that begins with this name, after the name
 unfoldable pub after_name_form : Lexeme → Form Expr
 after_name_form l =
     follow
@@ -93,7 +93,7 @@ after_name_form l =
     (operations comparing_kind (sum_form Plain outside)))
     (operations logical_kind (comparison_form Plain outside))
 
--- simple = LNAME {"," LNAME} ":" type [":=" expr] | LNAME "::=" expr | expr [":=" expr]: behind a name the next lexeme tells which
+-- simple = LNAME {"," LNAME} ":" type [":=" expr] | LNAME "::=" expr | expr [":=" expr]: after a name the next lexeme decides
 unfoldable pub simple_form : Form Stmt
 simple_form =
     shift is_lower
@@ -143,24 +143,24 @@ case_arms_form = shift (is_word word.When) (λ _. separated (is_word word.When) 
 unfoldable pub branches_form : Form (List TypeArm)
 branches_form = shift (is_word word.When) (λ _. separated (is_word word.When) branch_form) (give [])
 
--- arm {"elsif" arm} ending, behind the "if"
+-- arm {"elsif" arm} ending, after the "if"
 abbrev pub if_form : Lexeme → Form Stmt
 if_form w = follow arms_form (λ arms. make (λ rest. tree.If arms (unwrap_or rest []) w.pos) ending_form)
 
--- stmts "end", behind the "loop"
+-- stmts "end", after the "loop"
 abbrev pub loop_form : Lexeme → Form Stmt
 loop_form w = make (λ list. tree.Loop list w.pos) (until_word word.End (nest stmts))
 
--- expr {"when" case_arm} ending, behind the "case"
+-- expr {"when" case_arm} ending, after the "case"
 abbrev pub case_form : Lexeme → Form Stmt
 case_form w = follow value_form (λ e. follow case_arms_form (λ arms. make (λ rest. tree.Case e arms rest w.pos) ending_form))
 
--- LNAME {"when" branch} ending, behind the "typecase"
+-- LNAME {"when" branch} ending, after the "typecase"
 abbrev pub typecase_form : Lexeme → Form Stmt
 typecase_form w =
     follow name_form (λ name. follow branches_form (λ branches. make (λ rest. tree.TypeCase name branches rest w.pos) ending_form))
 
--- stmts {"when" branch} ending, behind the "protect"
+-- stmts {"when" branch} ending, after the "protect"
 abbrev pub protect_form : Lexeme → Form Stmt
 protect_form w =
     follow (nest stmts) (λ list. follow branches_form (λ branches. make (λ rest. tree.Protect list branches rest w.pos) ending_form))

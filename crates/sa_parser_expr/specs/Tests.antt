@@ -86,7 +86,7 @@ is_character l = is_character_kind l.kind
 abbrev pub is_text : Lexeme → Bool
 is_text l = is_text_kind l.kind
 
--- ---- what a kind tells
+-- ---- what a kind gives
 
 -- the value of a number or a character, and 0 of others
 abbrev pub value_of_kind : TokenKind → ℕ
@@ -94,7 +94,7 @@ value_of_kind (token.Int value) = value
 value_of_kind (token.Char byte) = byte
 value_of_kind _ = 0
 
--- the bytes that a text stands for, and none of others
+-- the bytes that a text denotes, and none of others
 abbrev pub text_of_kind : TokenKind → List ℕ
 text_of_kind (token.Text bytes) = bytes
 text_of_kind _ = []
@@ -137,7 +137,7 @@ prefix_sign sign.Minus = Some Negate
 prefix_sign sign.Tilde = Some Not
 prefix_sign _ = None
 
--- the operators of each precedence, by the kind of their lexeme, and those in front of an operand
+-- the operators of each precedence, by the kind of their lexeme, and those before an operand
 abbrev pub logical_kind : TokenKind → Option Operator
 logical_kind (token.Word w) = logical_word w
 logical_kind _ = None

@@ -17,9 +17,9 @@ use sa_ast::{Expr, Rejection};
 use sa_lexer::Token;
 use std::alloc::Global;
 
-/// The expression that begins at a place among a file's tokens, and the place behind it: the longest one.
+/// The longest expression that begins at an index of a file's tokens, and the index after it.
 ///
-/// E06 stands at the first token with which the tokens from the place on begin no expression, or at the end of the file.
+/// E06 is at the first token with which the tokens from the index on begin no expression, or at the end of the file.
 pub fn read_expr(alloc: Global, tokens: &Tokens<'_>, from: u32) -> Result<(Expr, u32), Rejection>
     ensures next { IfOk result (λ read. IsAfter tokens.now.list.now from read.1) }
     ensures spelled { IfOk result (λ read. IsExpr Plain Open (between tokens.now from read.1) read.0) }
@@ -29,9 +29,9 @@ pub fn read_expr(alloc: Global, tokens: &Tokens<'_>, from: u32) -> Result<(Expr,
     read_condition(alloc, tokens, ConditionScope::Plain, from)
 }
 
-/// The condition of this scope that begins at a place among a file's tokens, and the place behind it: the longest expression.
+/// The longest condition of this scope that begins at an index of a file's tokens, and the index after it.
 ///
-/// E06 stands at the first token with which the tokens from the place on begin no such condition, or at the end of the file.
+/// E06 is at the first token with which the tokens from the index on begin no such condition, or at the end of the file.
 pub fn read_condition(
     alloc: Global,
     tokens: &Tokens<'_>,
@@ -46,7 +46,7 @@ pub fn read_condition(
     read_form(alloc, tokens, scope, Form::Expr(Enclosure::Open), from)
 }
 
-/// `read_expr` over the tokens `tokens` of the text `src`, which is that of file `file`.
+/// `read_expr` over the tokens `tokens` of the text `src`, which is that of the file with index `file`.
 pub fn expr(
     alloc: Global,
     tokens: &[Token],
@@ -71,7 +71,7 @@ pub fn expr(
     read_expr(alloc, &tokens, from)
 }
 
-/// `read_condition` over the tokens `tokens` of the text `src`, which is that of file `file`.
+/// `read_condition` over the tokens `tokens` of the text `src`, which is that of the file with index `file`.
 pub fn condition(
     alloc: Global,
     tokens: &[Token],

@@ -12,25 +12,25 @@ use crate::tokens::Tokens;
 use sa_ast::{Expr, Rejection};
 use std::alloc::Global;
 
-/// Whether `result` and `initial` may stand in an expression.
+/// Whether `result` and `initial` are allowed in an expression.
 #[derive(Clone, Copy, Debug, PartialEq, Eq)]
 pub enum ConditionScope {
-    /// They may not: in statements, in a `pre`, in an invariant and inside an `initial`.
+    /// They aren't: in statements, in a `pre`, in an invariant and inside an `initial`.
     Plain,
-    /// They may: in a `post`.
+    /// They are: in a `post`.
     PostClause,
 }
 
-/// What an expression is directly inside of.
+/// What directly encloses an expression.
 #[derive(Clone, Copy, Debug, PartialEq, Eq)]
 pub(crate) enum Enclosure {
     /// Nothing, or an open `(` or `[`: a `|` begins an array literal.
     Open,
-    /// An array literal that no `(`, `[` or `{` was opened in: a `|` ends it, and can't begin another one.
+    /// An array literal in which no `(`, `[` or `{` is open: a `|` ends it, and can't begin another one.
     Items,
 }
 
-/// A production that nests in others.
+/// The production by which a nested expression is read.
 #[derive(Clone, Copy, Debug, PartialEq, Eq)]
 pub(crate) enum Form {
     /// An expression.
@@ -39,14 +39,14 @@ pub(crate) enum Form {
     Post,
 }
 
-/// The productions of an expression of this scope that begins at `from` or behind.
+/// The productions of an expression of this scope that begins at `from` or after it.
 #[derive(Clone, Copy)]
 pub(crate) struct Grammar<'a, F> {
     pub alloc: Global,
     pub tokens: Tokens<'a>,
     pub scope: ConditionScope,
     pub from: u32,
-    /// Reads a form at a place behind `from`.
+    /// Reads a form at an index after `from`.
     pub nested: F,
 }
 
@@ -71,7 +71,7 @@ impl<
     }
 }
 
-/// The expression of this scope and form that begins at a place, and the place behind it.
+/// The expression of this scope and form that begins at an index, and the index after it.
 pub(crate) fn read_form(
     alloc: Global,
     tokens: &Tokens<'_>,

@@ -1,7 +1,7 @@
 //! The levels of nesting of a file's tokens.
 //!
-//! A stack of counters goes over the tokens. Its sum is the level, which bounds how deep the constructs at a place nest,
-//! and with it the recursion of all that reads or walks a tree.
+//! A stack of counters goes over the tokens. Its sum is the level, which bounds how deep the constructs at an index nest,
+//! and with it the recursion of all that reads or walks an AST.
 
 ghost use Rattle.std.specs.Prelude.{◌≡◌, ◌+◌, ◌≤◌, [], ◌∷◌, IfErr, IfNone, IfSome, OnOk, drop, length, reverse};
 ghost use Rattle.sa_parser_expr.specs.Level.{AreTaken, RefusesTokens, added, after, at_bar, is_refused};
@@ -11,7 +11,7 @@ use sa_ast::{Pos, Rejection, Rule};
 use sa_lexer::{Sign, Token, TokenKind, Word};
 use std::alloc::{AllocError, Global};
 
-/// The greatest level that is taken.
+/// The greatest level that is accepted.
 const MAX_LEVEL: u32 = 200;
 
 /// What opened a construct.
@@ -46,7 +46,7 @@ pub(crate) enum Step {
     Reset,
     /// Closes the innermost one where a `|` opened it, and opens another one elsewhere.
     Bar,
-    /// Closes all.
+    /// Closes all of them.
     Clear,
     /// Nothing.
     Keep,
@@ -105,7 +105,7 @@ fn step_of(kind: &TokenKind) -> Step
     }
 }
 
-/// The counters that are open at a place, the innermost one last, and their sum.
+/// The counters that are open at an index of the tokens, the innermost one last, and their sum.
 #[derive(Drop)]
 struct Levels {
     counters: Vec<Counter>,
@@ -123,7 +123,7 @@ impl Levels {
         }
     }
 
-    /// The place of the innermost counter, if one is open.
+    /// The index of the innermost counter, if one is open.
     fn innermost(&self) -> Option<usize>
         ensures none { IfNone result (self.now.counters.items ≡ []) }
         ensures last { IfSome result (λ at. at + 1 ≡ length self.now.counters.items) }
@@ -229,7 +229,7 @@ fn is_refused(kind: &TokenKind) -> bool
     matches!(kind, TokenKind::Word(word) if word.is_refused())
 }
 
-/// Whether a parser may go over these tokens, which are those of file `file`.
+/// Whether a parser may go over these tokens, which are those of the file with index `file`.
 ///
 /// `Refused` names the first token that is a word which the profile refuses (E08), or at which the level passes 200
 /// (E07). `NoMemory` means that memory has run out.

@@ -1,4 +1,4 @@
-//! Types and expressions from the tokens of a file, and the levels of nesting of its tokens.
+//! The parser of types and expressions, and the levels of nesting of a file's tokens.
 #![tactic(auto)]
 
 mod expression;

@@ -10,8 +10,8 @@
 //! power   = post ["^" power]
 //! ```
 //!
-//! The four productions of operators of two operands that go to the left are alike, `operation = operand {operator operand}`,
-//! and have one function; a `Precedence` tells which it reads. An operator stands at its sign or word.
+//! The four productions of left-associative binary operators are alike, `operation = operand {operator operand}`, and have one
+//! function; a `Precedence` says which of them it reads. The position of an operator is that of its sign or word.
 
 ghost use Rattle.std.specs.Prelude.{◌≡◌, ◌<◌, ◌≤◌, IfErr, IfOk, IfSome, OnSome, length};
 ghost use Rattle.sa_ast.specs.declared.expr.Expr.TheVariants as tree;
@@ -32,7 +32,7 @@ use sa_lexer::{Sign, TokenKind, Word};
 use sqlite_items::Boxed;
 use std::alloc::{AllocError, Global};
 
-/// How strongly operators of two operands bind that go to the left, from the weakest to the strongest.
+/// The precedence of left-associative binary operators, from the weakest to the strongest.
 #[derive(Clone, Copy, Debug, PartialEq, Eq)]
 pub(crate) enum Precedence {
     /// `and` and `or`.
@@ -45,7 +45,7 @@ pub(crate) enum Precedence {
     Multiplying,
 }
 
-/// The operator of two operands, which stands at this position.
+/// The application of a binary operator, with this position.
 fn binary(
     alloc: Global,
     op: Operator,
@@ -60,7 +60,7 @@ fn binary(
     Ok(Expr::Binary(op, left, right, pos))
 }
 
-/// The operator of this precedence that stands there, if there is one.
+/// The operator of this precedence that is there, if there is one.
 fn operator(precedence: Precedence, tokens: &Tokens<'_>, at: u32) -> Option<Operator>
     ensures within { OnSome result (at < length tokens.now.list.now) }
     ensures spelled { IfSome result (λ op. IsLexemeAt (IsOperator precedence op) tokens.now at) }

@@ -8,8 +8,8 @@
 //! exprs    = expr {"," expr}
 //! ```
 //!
-//! F is a lower name or an iter name. A call stands at this name, and an index at the first token of the whole form, a
-//! parenthesis among them.
+//! F is a lower name or an iter name. The position of a call is that of this name, and the position of an index is that of the first
+//! token of the whole form, which may be a parenthesis.
 
 ghost use Rattle.std.specs.Prelude.{◌+◌, ◌≡◌, ◌<◌, ◌≤◌, IfErr, IfOk, length, Some};
 ghost use Rattle.sa_lexer.specs.declared.sign.Sign.TheVariants as sign;
@@ -175,7 +175,7 @@ impl<
     }
 }
 
-/// `["out" | "inout"]` in front of the value of an argument, and the place behind it.
+/// `["out" | "inout"]` before the value of an argument, and the index after it.
 fn given_mode(tokens: &Tokens<'_>, from: u32) -> (Mode, u32)
     ensures from { from ≤ result.1 }
     ensures spelled { GivesMode (between tokens.now from result.1) result.0 }
@@ -188,7 +188,7 @@ fn given_mode(tokens: &Tokens<'_>, from: u32) -> (Mode, u32)
     }
 }
 
-/// `"_" [":" type]`, where the `_` stands.
+/// `"_" [":" type]`, from the `_` on.
 fn left_open(alloc: Global, tokens: &Tokens<'_>, from: u32) -> Result<(ExprArg, u32), Rejection>
     requires within { from < length tokens.now.list.now }
     requires there { kind_at tokens.now.list.now from ≡ Some (token.Sign sign.Underscore) }

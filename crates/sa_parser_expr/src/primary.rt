@@ -8,7 +8,8 @@
 //! ```
 //!
 //! `result` and `initial(e)` are calls of these names.
-//! A call stands at its name, and every other form at its first token. Parentheses leave no trace in the tree.
+//! The position of a call is that of its name, and the position of every other form is that of its first token. Parentheses leave no
+//! trace in the AST.
 
 ghost use Rattle.std.specs.Prelude.{◌≡◌, ◌<◌, ◌≤◌, IfErr, IfOk, Some, length};
 ghost use Rattle.sa_lexer.specs.declared.sign.Sign.TheVariants as sign;
@@ -295,7 +296,7 @@ fn optional_type(
     Ok((Some(ty), next))
 }
 
-/// `{text}` behind a first text: one text of the bytes of all.
+/// `{text}` after a first text: one text of the bytes of all.
 fn texts(
     alloc: Global,
     tokens: &Tokens<'_>,

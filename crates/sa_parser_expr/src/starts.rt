@@ -1,4 +1,4 @@
-//! Which token can begin what may be left out: a type or an expression. The end of the file begins nothing.
+//! Which token can begin what is optional: a type or an expression. The end of the file begins nothing.
 
 ghost use Rattle.std.specs.Prelude.{◌≡◌, IsSome};
 ghost use Rattle.std.specs.Bool.{OnTrue};

@@ -11,13 +11,13 @@ use sa_ast::{Name, Pos, Rejection, Rule};
 use sa_lexer::{Sign, Token, TokenKind, Word, slice_of};
 use std::alloc::{AllocError, Global};
 
-/// A file's tokens with its text. A place among the tokens is their number from 0; each place past the last token is
-/// the end of the file, where no token stands.
+/// A file's tokens with its text. An index of the tokens counts from 0; each index past the last token is the end of the file, where
+/// there is no token.
 #[derive(Clone, Copy)]
 pub struct Tokens<'a> {
     pub list: &'a [Token],
     pub src: &'a [u8],
-    /// The number of the file, for positions.
+    /// The index of the file, for positions.
     pub file: u32,
     pub ghost within: { All (IsWithin src.now) list.now },
     pub ghost few: { length list.now < 4294967295 },
@@ -25,7 +25,7 @@ pub struct Tokens<'a> {
 }
 
 impl Tokens<'_> {
-    /// What stands at a place, and nothing at the end of the file.
+    /// The kind of the token at an index, and `None` at the end of the file.
     #[tactic(auto, unfolding(crate::specs::Positions::kind_at))]
     pub fn kind(&self, at: u32) -> Option<&TokenKind>
         ensures value { option_copied result ≡ kind_at self.now.list.now at }
@@ -37,7 +37,7 @@ impl Tokens<'_> {
         }
     }
 
-    /// Whether this sign stands there.
+    /// Whether this sign is there.
     pub fn is_sign(&self, at: u32, sign: Sign) -> bool
         ensures value { IsTrue result ↔ (kind_at self.now.list.now at ≡ Some (token.Sign sign)) }
         ensures within { OnTrue result (at < length self.now.list.now) }
@@ -45,7 +45,7 @@ impl Tokens<'_> {
         matches!(self.kind(at), Some(TokenKind::Sign(there)) if *there == sign)
     }
 
-    /// Whether this word stands there.
+    /// Whether this word is there.
     pub fn is_word(&self, at: u32, word: Word) -> bool
         ensures value { IsTrue result ↔ (kind_at self.now.list.now at ≡ Some (token.Word word)) }
         ensures within { OnTrue result (at < length self.now.list.now) }
@@ -53,7 +53,7 @@ impl Tokens<'_> {
         matches!(self.kind(at), Some(TokenKind::Word(there)) if *there == word)
     }
 
-    /// Whether a lower name stands there, which no `!` follows.
+    /// Whether a lower name is there, which no `!` follows.
     pub fn is_lower(&self, at: u32) -> bool
         ensures value { IsTrue result ↔ (kind_at self.now.list.now at ≡ Some token.Lower) }
         ensures within { OnTrue result (at < length self.now.list.now) }
@@ -61,7 +61,7 @@ impl Tokens<'_> {
         matches!(self.kind(at), Some(TokenKind::Lower))
     }
 
-    /// Whether the name of a feature stands there: a lower name or the name of an iter.
+    /// Whether the name of a feature is there: a lower name or the name of an iter.
     pub fn is_feature_name(&self, at: u32) -> bool
         ensures value { IsTrue result
             ↔ ((kind_at self.now.list.now at ≡ Some token.Lower) ⊎ (kind_at self.now.list.now at ≡ Some token.IterName)) }
@@ -70,7 +70,7 @@ impl Tokens<'_> {
         matches!(self.kind(at), Some(TokenKind::Lower | TokenKind::IterName))
     }
 
-    /// The position of the token's first byte. The end of the file is behind the last byte of the text.
+    /// The position of the token's first byte. That of the end of the file is after the last byte of the text.
     #[tactic(auto, unfolding(crate::specs::Positions::start_at))]
     pub fn pos(&self, at: u32) -> Pos
         ensures { result ≡ record { file = self.now.file; at = start_at self.now.src.now self.now.list.now at } }
@@ -111,7 +111,7 @@ impl Tokens<'_> {
         Rejection::Refused(Rule::UnexpectedToken.at(self.pos(at)))
     }
 
-    /// The place behind this sign, or E06 where another token or none stands.
+    /// The index after this sign, or E06 where another token is, or none.
     pub fn after_sign(&self, at: u32, sign: Sign) -> Result<u32, Rejection>
         ensures next { IfOk result (λ next. (next ≡ at + 1) × (at < length self.now.list.now)) }
         ensures sign { IfOk result (λ _. kind_at self.now.list.now at ≡ Some (token.Sign sign)) }
@@ -126,7 +126,7 @@ impl Tokens<'_> {
         }
     }
 
-    /// The place behind this word, or E06 where another token or none stands.
+    /// The index after this word, or E06 where another token is, or none.
     pub fn after_word(&self, at: u32, word: Word) -> Result<u32, Rejection>
         ensures next { IfOk result (λ next. (next ≡ at + 1) × (at < length self.now.list.now)) }
         ensures word { IfOk result (λ _. kind_at self.now.list.now at ≡ Some (token.Word word)) }

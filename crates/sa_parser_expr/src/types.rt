@@ -11,7 +11,7 @@
 //! bound_result = [":" type]
 //! ```
 //!
-//! C is a class name or an abstract name. `once` stands in the arguments of ITER alone.
+//! C is a class name or an abstract name. `once` is allowed in the arguments of ITER alone.
 
 ghost use Rattle.std.specs.Prelude.{◌≤◌, IfErr, IfOk, length};
 ghost use Rattle.sa_parser_expr.specs.Exactly.{ReadsAs, Takes};
@@ -27,16 +27,16 @@ use sa_lexer::{Sign, TokenKind, Word};
 use sqlite_items::{Boxed, Items};
 use std::alloc::Global;
 
-/// What kind of callable arguments are of. `once` is a mode of those of iters alone.
+/// Whether a callable is a routine or an iter. `once` is a mode of the arguments of iters alone.
 #[derive(Clone, Copy, Debug, PartialEq, Eq)]
 pub enum CallableKind {
     Routine,
     Iter,
 }
 
-/// The type that begins at a place, and the place behind it. A type stands at its first token.
+/// The type that begins at an index, and the index after it. The position of a type is that of its first token.
 ///
-/// E06 stands at the first token with which the tokens from the place on begin no type, or at the end of the file.
+/// E06 is at the first token with which the tokens from the index on begin no type, or at the end of the file.
 #[cycle(ty)]
 pub fn read_type(alloc: Global, tokens: &Tokens<'_>, from: u32) -> Result<(Ty, u32), Rejection>
     ensures next { IfOk result (λ read. IsAfter tokens.now.list.now from read.1) }
@@ -82,7 +82,7 @@ fn given_types(alloc: Global, tokens: &Tokens<'_>, from: u32) -> Result<(Items<T
     Ok((types, tokens.after_sign(next, Sign::RightBrace)?))
 }
 
-/// One type or several with `,` between them, and the place behind the last.
+/// One type or several with `,` between them, and the index after the last.
 #[cycle(ty)]
 pub fn read_types(
     alloc: Global,
@@ -188,8 +188,8 @@ fn bound_result(
     Ok((Some(Boxed::new(alloc, ty)?), next))
 }
 
-/// The mode that is written at a place, and the place behind it; where none is written, `In` and the place itself.
-/// `once` is a mode of iters' arguments alone: elsewhere it is left, and can't begin what has to follow.
+/// The mode that is written at an index, and the index after it; where none is written, `In` and the index itself.
+/// `once` is a mode of iters' arguments alone: elsewhere it isn't read, and can't begin what has to follow.
 pub fn read_mode(tokens: &Tokens<'_>, callable: CallableKind, from: u32) -> (Mode, u32)
     ensures from { from ≤ result.1 }
     ensures within { from ≤ length tokens.now.list.now → result.1 ≤ length tokens.now.list.now }

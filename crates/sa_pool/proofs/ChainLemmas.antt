@@ -25,7 +25,7 @@ words-apart slot other slot_words at differ within same =
           ]
     ]
 
--- each slot lies inside the memory
+-- each slot is inside the memory
 pub start-below : (slot slot_words len : ℕ) → slot < 10000 → 0 < slot_words → 10000 * slot_words + 1 ≤ len → slot * slot_words + 1 < len
 start-below slot slot_words len below some room =
     let above = mul-le (slot + 1) slot_words 10000 slot_words (omega arith) (omega arith) in

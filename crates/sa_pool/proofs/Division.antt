@@ -1,4 +1,4 @@
--- The numbers below a bound, as those in a list and the others.
+-- The numbers less than a bound, as those in a list and the others.
 use Rattle.std.proofs.Common.{◌≡◌, ◌≢◌, ℕ, zero, suc, ◌+◌, ◌<◌, ◌≤◌, Bool, true, false, not, ◌||◌, inl, inr, List, [], ◌∷◌, ◌++◌, length, length-append, refl, sym, ap, ◌∙◌, arith}
 use Rattle.std.specs.List.{All, Contains, filter}
 use Rattle.std.specs.List.Sorted.{IsPermutation}
@@ -7,7 +7,7 @@ use Rattle.std.proofs.lemmas.List.Elements.{All-nil, All-cons, All-contains, All
 use Rattle.std.proofs.lemmas.List.Sorted.{IsPermutation-refl, IsPermutation-sym, IsPermutation-cons, IsPermutation-middle, IsPermutation-trans, IsPermutation-append_right, length_permutation}
 use Rattle.sa_pool.specs.Numbers.{numbers_from, is_in, AreApartBelow, others_below}
 
--- ---- numbers one after the other
+-- ---- consecutive numbers
 
 -- two tests that agree from a number on keep the same
 filter-from : (p q : ℕ → Bool) (first count : ℕ) → ((n : ℕ) → first ≤ n → p n ≡ q n) → filter p (numbers_from first count) ≡ filter q (numbers_from first count)
@@ -77,7 +77,7 @@ others-cons bound xs s below new =
     (not_from_true _ (or_left _ _ (eq-eqb s s refl)))
     (λ n other. ap (λ (b : Bool). not (b || is_in xs n)) (sym (ne_eqb s n (λ e. other (sym e)))))
 
--- together they are all numbers below the bound, each once
+-- together they are all numbers less than the bound, each once
 pub append-others : (bound : ℕ) (xs : List ℕ) → AreApartBelow bound xs → IsPermutation (xs ++ others_below bound xs) (numbers_from 0 bound)
 unfolding others_below
 append-others bound [] apart = rw (filter-all 0 bound) (IsPermutation-refl _)

@@ -156,7 +156,7 @@ live-slot words slot_words slot seen pool view_is contained =
     let place = among.1 in
     (other.0, other.1, omega (arith, count, place))
 
--- a slot is given back
+-- a slot is freed
 pub give-back : (words linked after : List ℕ) (slot_words word used top live start stored head slot : ℕ) (seen : Slots) → word ≡ slice_index words 0 → Says word used top live → IsPool words slot_words → slots_of words slot_words ≡ seen → Contains seen.live slot → start ≡ start_of slot_words slot → stored ≡ top → linked ≡ slice_set words start stored → after ≡ slice_set linked 0 head → Says head used (slot + 1) (live - 1) → Moved after words slot_words slot
 give-back words linked after slot_words word used top live start stored head slot seen read says pool view_is contained starts stores linking written then_says =
     let link : linked ≡ slice_set words (start_of slot_words slot) top = linking ∙ ap (λ (n : ℕ). slice_set words n stored) starts ∙ ap (λ (n : ℕ). slice_set words (start_of slot_words slot) n) stores in
@@ -180,7 +180,7 @@ give-back words linked after slot_words word used top live start stored head slo
           ∙ ap (λ (xs : List ℕ). slot ∷ xs) (sym (free-by words slot_words word used top live (sym read) says));
     }
 
--- the other live slots keep their words where one is given back
+-- the other live slots keep their words where one is freed
 pub give-keeps : (words linked after : List ℕ) (slot_words start stored head slot : ℕ) → Moved after words slot_words slot → start ≡ start_of slot_words slot → linked ≡ slice_set words start stored → after ≡ slice_set linked 0 head → KeepsLive (slots_of words slot_words) (slots_of after slot_words)
 give-keeps words linked after slot_words start stored head slot m starts linking written =
     let link : linked ≡ slice_set words (start_of slot_words slot) stored = linking ∙ ap (λ (n : ℕ). slice_set words n stored) starts in

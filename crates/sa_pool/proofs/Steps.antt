@@ -92,7 +92,7 @@ none-left words slot_words live pool =
     let fewer = pool.fewer in
     omega arith
 
--- ---- a slot is given back
+-- ---- a slot is freed
 
 pub given-back : (words : List ℕ) (slot_words used top live head slot : ℕ) → IsPoolBy words slot_words used top live → 0 < live → slot < 10000 → is_in (free_by words slot_words used top live) slot ≡ false → Step (slice_set (slice_set words (start_of slot_words slot) top) 0 head) slot_words used (slot + 1) (live - 1) slot (free_by words slot_words used top live) (free_by (slice_set (slice_set words (start_of slot_words slot) top) 0 head) slot_words used (slot + 1) (live - 1))
 unfolding free_by

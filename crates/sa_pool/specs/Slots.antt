@@ -3,8 +3,8 @@ use Rattle.std.specs.Prelude.{ℕ, List, ◌++◌}
 use Rattle.std.specs.List.Sorted.{IsPermutation}
 use Rattle.sa_pool.specs.Numbers.{numbers_from}
 
--- the free slots and the live ones by their numbers, how many words a slot has, and all words of the memory: the slots lie one
--- after the other behind the first word
+-- the free slots and the live ones by their numbers, how many words a slot has, and all words of the memory: the slots follow one another
+-- after the first word
 pub record Slots : Type 0 where
   pub free : List ℕ
   pub live : List ℕ

@@ -1,4 +1,4 @@
-//! The first word of the memory, in which a pool keeps its counts and where its chain of free slots begins.
+//! The first word of the memory, with the counts of a pool and the beginning of its chain of free slots.
 
 ghost use Rattle.sa_pool.specs.Head.{Says};
 

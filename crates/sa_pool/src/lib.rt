@@ -1,4 +1,4 @@
-//! The pool of frame slots, in a memory of words and as functions of a WebAssembly module.
+//! The allocator of frame slots, in a memory of words and as functions of a WebAssembly module.
 #![tactic(auto)]
 
 mod head;

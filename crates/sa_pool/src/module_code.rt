@@ -3,14 +3,15 @@
 
 ghost use Rattle.std.specs.Prelude.{◌≡◌, IfOk};
 
+use failure::{Failure, Invariant, known};
 use sa_runtime::template_ops::TemplateOp::{self, Do, Get, I32, I64, Memory, Tee};
 use sa_runtime::template_ops::emit_ops;
 use sqlite_items::Items;
 use std::alloc::Global;
 use wa_syntax::opcode::{I32_ADD, I32_EQ, I32_LOAD, I32_STORE, I64_STORE, RETURN};
-use wa_syntax::{Func, Instr, Locals, NoMemory, ValTy};
+use wa_syntax::{Func, Instr, Locals, ValTy};
 
-/// The functions of a module that take a slot and give one back.
+/// The functions of a module that allocate a slot and free one.
 #[derive(Drop)]
 pub struct PoolCode {
     pub take: Func,
@@ -29,11 +30,11 @@ const GIVES: u32 = 1;
 /// How many slots there are.
 const SLOTS: u32 = 10_000;
 
-/// The bytes of the head, which the slots follow: the address of the first slot of the chain, or 0, and behind it how many bytes the
-/// slots have that were ever taken.
+/// The bytes of the head, which the slots follow: the address of the first slot of the chain, or 0, and after it how many bytes the slots
+/// have that were ever taken.
 const HEAD_BYTES: u32 = 8;
 
-/// Where a pool lies.
+/// The addresses of a pool.
 #[derive(Clone, Copy)]
 struct PoolAddresses {
     /// The address of the first slot of the chain.
@@ -47,17 +48,17 @@ struct PoolAddresses {
     all_bytes: u32,
 }
 
-/// The functions of a pool in the memory from the address `base` on, with slots of so many bytes: both are multiples of 8, a slot
-/// has 16 bytes or more, and the memory holds `8 + 10000 * slot_bytes` bytes from there on. Memory that is 0 is a new pool.
+/// The functions of a pool in the memory from the address `base` on, with slots of so many bytes: both are multiples of 8, a slot has 16
+/// bytes or more, and the memory has `8 + 10000 * slot_bytes` bytes from there on. Memory that is 0 is a new pool.
 ///
-/// `take` answers the address of the slot that it has taken, whose second word is 0, or 0 where all are live; its type has the
-/// number 0, which is no parameter and a result of the type `i32`. `give` has the address of a slot that is live; its type has the
-/// number 1, which is a parameter of the type `i32` and no result.
+/// `take` returns the address of the slot that it has allocated, whose second word is 0, or 0 where all are live; its type has the number
+/// 0, which is no parameter and a result of the type `i32`. `give` takes the address of a slot that is live; its type has the number 1,
+/// which is a parameter of the type `i32` and no result.
 ///
 /// # Errors
 ///
-/// `NoMemory` where memory runs out, or 32 bits don't hold the addresses.
-pub fn code(alloc: Global, base: u32, slot_bytes: u32) -> Result<PoolCode, NoMemory>
+/// `NoMemory` where memory runs out, `Broken` where 32 bits don't hold the addresses.
+pub fn code(alloc: Global, base: u32, slot_bytes: u32) -> Result<PoolCode, Failure>
     ensures { IfOk result (λ code. (code.take.ty ≡ 0) × (code.give.ty ≡ 1)) }
 {
     let place = place_of(base, slot_bytes)?;
@@ -77,20 +78,20 @@ pub fn code(alloc: Global, base: u32, slot_bytes: u32) -> Result<PoolCode, NoMem
     })
 }
 
-/// Where a pool lies.
-fn place_of(base: u32, slot_bytes: u32) -> Result<PoolAddresses, NoMemory> {
-    let first = base.checked_add(HEAD_BYTES).ok_or(NoMemory)?;
+/// The addresses of a pool.
+fn place_of(base: u32, slot_bytes: u32) -> Result<PoolAddresses, Failure> {
+    let first = known(base.checked_add(HEAD_BYTES), Invariant::CheckedCount)?;
     Ok(PoolAddresses {
         chain: base,
         taken: first - 4,
         first,
         slot_bytes,
-        all_bytes: slot_bytes.checked_mul(SLOTS).ok_or(NoMemory)?,
+        all_bytes: known(slot_bytes.checked_mul(SLOTS), Invariant::CheckedCount)?,
     })
 }
 
 /// The body of `take`.
-fn take(alloc: Global, place: PoolAddresses) -> Result<Items<Instr>, NoMemory> {
+fn take(alloc: Global, place: PoolAddresses) -> Result<Items<Instr>, Failure> {
     let mut body = Items::new(alloc);
     let first_of_chain = [I32(0), Memory(I32_LOAD, place.chain), Tee(SLOT)];
     emit_ops(&mut body, &first_of_chain)?;
@@ -119,7 +120,7 @@ fn take(alloc: Global, place: PoolAddresses) -> Result<Items<Instr>, NoMemory> {
 }
 
 /// What `take` does where the chain has a slot.
-fn chained(alloc: Global, place: PoolAddresses) -> Result<Items<Instr>, NoMemory> {
+fn chained(alloc: Global, place: PoolAddresses) -> Result<Items<Instr>, Failure> {
     let take_chained = [
         I32(0),
         Get(SLOT),
@@ -135,7 +136,7 @@ fn chained(alloc: Global, place: PoolAddresses) -> Result<Items<Instr>, NoMemory
 }
 
 /// The body of `give`: the slot goes to the beginning of the chain.
-fn give(alloc: Global, place: PoolAddresses) -> Result<Items<Instr>, NoMemory> {
+fn give(alloc: Global, place: PoolAddresses) -> Result<Items<Instr>, Failure> {
     let give = [
         Get(SLOT),
         I32(0),
@@ -149,14 +150,14 @@ fn give(alloc: Global, place: PoolAddresses) -> Result<Items<Instr>, NoMemory> {
 }
 
 /// These instructions.
-fn line(alloc: Global, ops: &[TemplateOp]) -> Result<Items<Instr>, NoMemory> {
+fn line(alloc: Global, ops: &[TemplateOp]) -> Result<Items<Instr>, Failure> {
     let mut line = Items::new(alloc);
     emit_ops(&mut line, ops)?;
     Ok(line)
 }
 
-/// Adds what is done where the operand isn't 0.
-fn emit_if(alloc: Global, to: &mut Items<Instr>, then: Items<Instr>) -> Result<(), NoMemory> {
+/// Appends what is done where the operand isn't 0.
+fn emit_if(alloc: Global, to: &mut Items<Instr>, then: Items<Instr>) -> Result<(), Failure> {
     to.push(Instr::if_of(alloc, None, then, Items::new(alloc))?)?;
     Ok(())
 }

@@ -12,8 +12,8 @@ use std::marker::Model;
 /// How many slots there are.
 const SLOTS: u16 = 10_000;
 
-/// 10,000 slots of so many words each, which lie one after the other behind the first word of a memory. Contracts see the numbers
-/// of the free slots and those of the live ones, how many words a slot has, and the words of the memory.
+/// 10,000 slots of so many words each, which follow one another after the first word of a memory. Contracts see the numbers of the free
+/// slots and those of the live ones, how many words a slot has, and the words of the memory.
 #[derive(Drop)]
 pub struct Pool<M: WordMem> {
     mem: M,
@@ -45,7 +45,7 @@ impl<M: WordMem> Pool<M> {
         Pool { mem, slot_words }
     }
 
-    /// Takes a free slot, which is live from then on. `None` where all are live.
+    /// Allocates a free slot, which is live from then on. `None` where all are live.
     pub fn take(&mut self) -> Option<u32>
         ensures none { IsNone result ↔ (length self.old.live ≡ 10000) }
         ensures taken { IfSome result (GoesLive self.old self.new) }
@@ -77,7 +77,7 @@ impl<M: WordMem> Pool<M> {
         Some(u32::from(head.used))
     }
 
-    /// Gives a live slot back.
+    /// Frees a live slot.
     pub fn give(&mut self, slot: u32)
         requires { Contains self.old.live slot }
         ensures given { GoesLive self.new self.old slot }

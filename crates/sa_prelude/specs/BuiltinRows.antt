@@ -1,4 +1,4 @@
--- The row of the table of built-in features that each feature of the type has.
+-- The row of the table of built-in features that each variant has.
 use Rattle.std.specs.Prelude.{ℕ, List, codes}
 use Rattle.sa_prelude.specs.declared.feature.BuiltinFeature.{BuiltinFeature}
 use Rattle.sa_prelude.specs.declared.feature.BuiltinFeature.TheVariants as feature

@@ -1,4 +1,4 @@
--- The features that the implementation gives.
+-- The features that the implementation defines.
 use Rattle.std.specs.Prelude.{ℕ, Bool, ◌&&◌, ◌==◌, List, [], ◌∷◌, codes, bytes_eq}
 
 -- the names of the class and of the feature, and the number of its arguments

@@ -1,11 +1,11 @@
-//! The features that the implementation gives, which the prelude declares by the word `builtin`.
+//! The features that the implementation defines, which the prelude declares by the word `builtin`.
 
 ghost use Rattle.std.specs.Prelude.{◌≡◌, ◌&&◌, ◌==◌, ◌<◌, length, position, bytes_eq, option_map, IfSome};
 ghost use Rattle.sa_prelude.specs.BuiltinTable.{features, is_row};
 
 use crate::feature::Builtin;
 
-/// The class, the name and the number of arguments of each feature, at the place that is its number.
+/// The class, the name and the number of arguments of each feature, at the index that is its number.
 const ROWS: [(&str, &str, u32); 33] = [
     ("BOOL", "is_eq", 1),
     ("BOOL", "not", 0),
@@ -53,7 +53,7 @@ pub fn builtin(class: &[u8], name: &[u8], args: u32) -> Option<Builtin>
     })
 }
 
-/// The first place of such a row in a table.
+/// The index of the first such row in a table.
 fn place_in(table: &[(&str, &str, u32)], class: &[u8], name: &[u8], args: u32) -> Option<usize>
     ensures place { result ≡ position
         (λ row. bytes_eq class.now row.0.now && bytes_eq name.now row.1.now && row.2 == args) table.now }

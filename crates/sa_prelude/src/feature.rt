@@ -1,4 +1,4 @@
-//! The numbers of the features that the implementation gives.
+//! The numbers of the features that the implementation defines.
 
 ghost use Rattle.std.specs.Prelude.{◌≡◌, slice_get, Some};
 ghost use Rattle.sa_prelude.specs.BuiltinRows.{row_of};
@@ -6,14 +6,14 @@ ghost use Rattle.sa_prelude.specs.BuiltinTable.{features};
 
 use sqlite_items::at;
 
-/// A feature that the implementation gives.
+/// A feature that the implementation defines, by its number.
 #[derive(Clone, Copy, Debug, PartialEq, Eq)]
 pub struct Builtin {
-    /// Its number: its place in `BUILTIN_FEATURES`, which has 33 entries.
+    /// Its number: its index in `BUILTIN_FEATURES`, which has 33 entries.
     pub number: u8,
 }
 
-/// A feature that the implementation gives, by the names of its class and of itself.
+/// A feature that the implementation defines. A variant is named after its class and its name.
 #[derive(Clone, Copy, Debug, PartialEq, Eq, Hash)]
 pub enum BuiltinFeature {
     BoolIsEq,
@@ -51,7 +51,7 @@ pub enum BuiltinFeature {
     ArrayCreate,
 }
 
-/// The features that the implementation gives, each at the place that is its number.
+/// The features that the implementation defines, each at the index that is its number.
 pub const BUILTIN_FEATURES: [BuiltinFeature; 33] = [
     BuiltinFeature::BoolIsEq,
     BuiltinFeature::BoolNot,
@@ -96,7 +96,7 @@ impl BuiltinFeature {
         at(&BUILTIN_FEATURES, usize::from(number)).copied()
     }
 
-    /// The number of the feature, below 33.
+    /// The number of the feature, less than 33.
     pub fn number(self) -> u8
         ensures place { slice_get BUILTIN_FEATURES result ≡ Some self }
         ensures row { slice_get features result ≡ Some (row_of self) }

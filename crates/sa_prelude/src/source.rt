@@ -3,7 +3,7 @@
 ghost use Rattle.std.specs.Prelude.{◌≡◌, ◌<◌, length};
 ghost use Rattle.sa_prelude.specs.PreludeText.{prelude_text};
 
-/// The text of the prelude. Its lines are seen by users: a fault or a refusal in the prelude is told by its line.
+/// The text of the prelude. Users see its line numbers: a fault or a refusal in the prelude is reported by its line.
 pub const TEXT: &[u8] = br#"abstract class $OB is end;
 abstract class $STR is str:STR; end;
 abstract class $IS_EQ is is_eq(o:$OB):BOOL; end;

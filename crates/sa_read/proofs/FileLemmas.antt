@@ -1,4 +1,4 @@
--- What comes of one text, by the law of the grammar: the longest front of its lexemes is read that begins a file.
+-- What one text gives, by the law of the grammar: the longest prefix of its lexemes that begins a file is read.
 use Rattle.std.proofs.Common.{◌≡◌, ◌∙◌, ℕ, zero, suc, ◌<◌, inl, inr, List, [], ◌++◌, length, take, drop, Result, Ok, Err, IfOk, IfErr}
 use Rattle.std.proofs.Common.{OnOk, sym, subst, refl, ap, arith}
 use Rattle.std.proofs.lemmas.List.{append-nil, append_cancel_right, length-drop, length-map, take-append-drop}
@@ -21,11 +21,11 @@ use Rattle.sa_grammar.proofs.ClassesExact.{files_are_read}
 use Rattle.sa_read.specs.Front.{IsFirstUnexpected, IsParsedOf, IsUnexpectedIn, RefusesFile, file_kind_of}
 use Rattle.sa_read.specs.SourceFiles.{at}
 
--- what stands in front of the rest is as much as the rest leaves
+-- what comes before the rest is as much as the rest leaves
 front_is : (ls front : List Lexeme) (place : ℕ) → ls ≡ front ++ drop place ls → front ≡ take place ls
 front_is ls front place parts = append_cancel_right front (take place ls) (drop place ls) (sym parts ∙ sym (take-append-drop place ls))
 
--- where nothing is left, all is taken
+-- where nothing is left, the prefix is all
 all_is : (ls front rest : List Lexeme) → ls ≡ front ++ rest → rest ≡ [] → ls ≡ front
 all_is ls front rest parts end = parts ∙ ap (λ rest. front ++ rest) end ∙ append-nil front
 
@@ -62,7 +62,7 @@ module _ (file_kind : FileKind) (ls : List Lexeme) where
     unended = λ end _ _. absurd (omega (arith, ap length end, length-drop place ls, short));
   }
 
-  -- what the form refuses is the first lexeme with which no file goes on, or the end
+  -- what the form refuses is the first lexeme with which no file continues, or the end
   first_refused : (place : ℕ) → read_as (file_form file_kind) ls ≡ Refused (drop place ls) → IsFirstUnexpected file_kind ls place
   first_refused place is =
       refused_at (drop place ls) place refl (subst (IsRead (IsFile file_kind) ls) is (files_are_read file_kind ls))
@@ -123,11 +123,11 @@ module _ (texts : List (List ℕ)) (number first : ℕ) (tokens : List Token) wh
   )
   text_spelled (Err e) of_text taken h = tt
 
-  -- a refusal of it is at the first token that breaks a rule, or at the first one with which no file goes on
+  -- a refusal of it is at the first token that breaks a rule, or at the first one with which no file continues
   pub text_refused : (r : Result ParsedFiles Rejection) → files.Parses number (at texts number) tokens (file_kind_of number) first r
       → IfErr r (RefusesFile (at texts number) number tokens)
   text_refused (Ok parsed) h = tt
   text_refused (Err (fault.Refused refusal)) (inl broken) = inl broken
   text_refused (Err (fault.Refused refusal)) (inr (taken, h)) =
       inr (unexpected (at texts number) number tokens refusal (fault.Refused refusal) refl h)
-  text_refused (Err fault.NoMemory) h = tt
+  text_refused (Err (fault.Failed why)) h = tt

@@ -11,12 +11,12 @@ use Rattle.sa_parser.specs.declared.file.ParsedFiles.{ParsedFiles}
 use Rattle.sa_parser.specs.Classes.{parsed_of}
 use Rattle.sa_parser.proofs.Appended.{appended, same_parsed}
 use Rattle.sa_ast.specs.declared.refusal.Rejection.{Rejection}
-use Rattle.sa_ast.specs.declared.refusal.Rejection.TheVariants.{Refused, NoMemory}
+use Rattle.sa_ast.specs.declared.refusal.Rejection.TheVariants.{Refused, Failed}
 use Rattle.sa_read.specs.Front.{AreTokensOfTexts, AreTokenizedUpTo, IsParsedOf, IsParsedUpTo, IsSpelled, IsReadUpTo, IsUnexpectedIn}
 use Rattle.sa_read.specs.Front.{RefusesFile, RefusesProgram}
 use Rattle.sa_read.specs.SourceFiles.{at}
 
--- what holds up to a number and of it holds up to the next one
+-- what is true up to a number and of it is true up to the next one
 pub up_to_next : (P : ℕ → Type 0) (n : ℕ) → ((k : ℕ) → k < n → P k) → P n → (k : ℕ) → k < n + 1 → P k
 up_to_next P n before here k lt = elim (cases_lt k n) [
   | inl less ↦ before k less
@@ -38,21 +38,21 @@ tokens_more texts lists tokens n (count, each) here = (
 tokenized : (texts : List (List ℕ)) (lists : List (List Token)) (n : ℕ) → AreTokensOfTexts texts lists n → AreTokenizedUpTo texts n
 tokenized texts lists n (count, each) k lt = (slice_index_or lists k [], each k lt)
 
--- a text without tokens behind texts that have them
+-- a text without tokens after texts that have them
 pub lexical : (texts : List (List ℕ)) (lists : List (List Token)) (n : ℕ) (fault : Rejection)
     → AreTokensOfTexts texts lists n → n < length texts → RefusesText (at texts n) n fault → RefusesProgram texts fault
-lexical texts lists n NoMemory each there refused = tt
+lexical texts lists n (Failed why) each there refused = tt
 lexical texts lists n (Refused refusal) each there (fault, file) = inl (record {
   within = rw file there;
   before = rw file (tokenized texts lists n each);
   fault = subst (λ number. IsFaultOf (at texts number) refusal) (sym file) fault;
 })
 
--- a text whose tokens break a rule behind texts whose tokens don't
+-- a text whose tokens break a rule after texts whose tokens don't
 pub breach : (texts : List (List ℕ)) (lists : List (List Token)) (n : ℕ) (fault : Rejection)
     → AreTokensOfTexts texts lists (length texts) → n < length texts → IsReadUpTo texts n
     → RefusesTokens (slice_index_or lists n []) n fault → RefusesProgram texts fault
-breach texts lists n NoMemory each there before refused = tt
+breach texts lists n (Failed why) each there before refused = tt
 breach texts lists n (Refused refusal) each there before (broken, file) = inr (inl (record {
   tokenized = tokenized texts lists (length texts) each;
   within = rw file there;
@@ -64,13 +64,13 @@ breach texts lists n (Refused refusal) each there before (broken, file) = inr (i
 
 abbrev file_of : Rejection → ℕ
 file_of (Refused refusal) = refusal.pos.file
-file_of NoMemory = 0
+file_of (Failed why) = 0
 
--- a text that is refused behind texts that spell classes
+-- a text that is refused after texts that spell classes
 pub grammar : (texts : List (List ℕ)) (lists : List (List Token)) (n : ℕ) (parsed : ParsedFiles) (fault : Rejection)
     → AreTokensOfTexts texts lists (length texts) → n < length texts → IsReadUpTo texts (length texts) → IsParsedUpTo texts n parsed
     → RefusesFile (at texts n) n (slice_index_or lists n []) fault → RefusesProgram texts fault
-grammar texts lists n parsed NoMemory each there taken so_far refused = tt
+grammar texts lists n parsed (Failed why) each there taken so_far refused = tt
 grammar texts lists n parsed (Refused refusal) each there taken so_far (inl broken) =
     breach texts lists n (Refused refusal) each there (λ k lt. taken k (omega arith)) broken
 grammar texts lists n parsed (Refused refusal) each there taken so_far (inr unexpected) =
@@ -84,7 +84,7 @@ grammar texts lists n parsed (Refused refusal) each there taken so_far (inr unex
       unexpected = subst (λ number. IsUnexpectedIn (at texts number) number (slice_index_or lists n []) refusal) (sym file) unexpected;
     }))
 
--- ---- the text with a number, and its tokens, which are found in the lists
+-- ---- the text with an index, and its tokens, which are found in the lists
 
 pub text_at : (texts : List (List ℕ)) (n : ℕ) (text d : List ℕ) → n < length texts → text ≡ slice_index_or texts n d → text ≡ at texts n
 text_at texts n text d there is = is ∙ get_or_default texts n d [] there

@@ -89,7 +89,7 @@ pub only : (texts : List (List ℕ)) (r : Result ParsedFiles Rejection) → IfOk
     → (parsed : ParsedFiles) → IsProgramOf texts parsed → GivesProgram parsed r
 only texts (Ok found) given refused parsed p = one_program texts found parsed given p
 only texts (Err (fault.Refused refusal)) given refused parsed p = not_refused texts parsed refusal p refused
-only texts (Err fault.NoMemory) given refused parsed p = tt
+only texts (Err (fault.Failed why)) given refused parsed p = tt
 
 -- a refusal of a phase
 pub only_refused : (texts : List (List ℕ)) (e : Rejection) (r : Result ParsedFiles Rejection) → r ≡ Err e → RefusesProgram texts e

@@ -12,7 +12,7 @@ use Rattle.sa_read.specs.FileContents.{HasFile, HasLonger}
 use Rattle.sa_read.specs.SourceFiles.{AreNamed, HaveTexts, IsCut, LacksOneOf, at, most, size, too_large}
 use Rattle.sa_read.proofs.FrontLemmas.{up_to_next}
 
--- the name at a place, of names that are borrowed
+-- the name at an index, of names that are borrowed
 pub name_at : (names : List (Bor (List ℕ))) (n : ℕ) (d : Bor (List ℕ)) → n < length names → (slice_index_or names n d).now ≡ at (map (λ name. name.now) names) n
 name_at names n d there = sym (get_or-map (λ (name : Bor (List ℕ)). name.now) names n d [] there)
 
@@ -42,7 +42,7 @@ named_more names sources new n name text named there is more longer = record {
   there = omega arith;
 }
 
--- a text behind the others leaves them
+-- a text that is added after the others leaves them
 pub texts_kept : (files : Option Files) (names texts : List (List ℕ)) (n : ℕ) (text : List ℕ) → length texts ≡ suc n → HaveTexts files names texts n → HaveTexts files names (texts ++ text ∷ []) n
 texts_kept files names texts n text count have k lt =
     subst (HasFile files (at names k)) (sym (get_or_append_left texts (text ∷ []) [] (suc k) (omega (arith, count)))) (have k lt)

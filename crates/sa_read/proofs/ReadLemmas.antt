@@ -9,7 +9,7 @@ use Rattle.sa_read.specs.FileContents.{HasFile, HasLonger, IsReadOf}
 use Rattle.sa_read.specs.declared.read.FileContents.{FileContents}
 use Rattle.sa_read.specs.declared.read.FileContents.TheVariants.{Whole, Cut}
 
--- if there is a file of this name, it begins with these bytes, where the store tells
+-- if there is a file of this name, it begins with these bytes, where the store says so
 abbrev pub HasFront : Option Files → List ℕ → List ℕ → Type 0
 HasFront None name bytes = ⊤
 HasFront (Some files) name bytes = (file : List ℕ) → get files name ≡ Some file → take (length bytes) file ≡ bytes
@@ -23,7 +23,7 @@ piece-within : (n at : ℕ) (buffer file : List ℕ) → take n buffer ≡ take 
 piece-within n at buffer file same fits =
     omega (arith, length-take-le n buffer fits, ap length same, length-take n (drop at file), length-drop at file)
 
--- one more piece of a list that is read from its front on
+-- one more piece of a list that is read from its first element on
 take-piece : (n : ℕ) (bytes buffer file : List ℕ) → take (length bytes) file ≡ bytes → take n buffer ≡ take n (drop (length bytes) file) → n ≤ length buffer → take (length (bytes ++ take n buffer)) file ≡ bytes ++ take n buffer
 take-piece n bytes buffer file front same fits =
     let len : length (bytes ++ take n buffer) ≡ length bytes + n = length-append bytes (take n buffer) ∙ ap (λ k. length bytes + k) (length-take-le n buffer fits) in
@@ -38,7 +38,7 @@ take-passed n bytes buffer file limit front same within past =
     sym (take-take room n buffer past) ∙ ap (take room) same ∙ take-take room n (drop (length bytes) file) past in
     ap (λ k. take k file) split ∙ take-add (length bytes) room file ∙ ap (λ xs. xs ++ take room (drop (length bytes) file)) front ∙ ap (λ xs. bytes ++ xs) (sym shorter)
 
--- a piece that was read behind the front makes a longer front
+-- a piece that was read after a prefix makes a longer prefix
 pub front_grows : (files : Option Files) (name bytes buffer more : List ℕ) (place n taken : ℕ) → place ≡ length bytes → n ≤ length buffer → taken ≡ n → more ≡ bytes ++ take taken buffer → HasFront files name bytes → Reads files name place n buffer → HasFront files name more
 front_grows None name bytes buffer more place n taken at fits all longer front read = tt
 front_grows (Some files) name bytes buffer more place n taken at fits all longer front read = λ file there.
@@ -46,7 +46,7 @@ front_grows (Some files) name bytes buffer more place n taken at fits all longer
     let piece : take n buffer ≡ take n (drop (length bytes) file) = rw (same, ← at) read.2.bytes in
     rw (longer, all) (take-piece n bytes buffer file (front file there) piece fits)
 
--- where nothing was read behind the front, the front is the file
+-- where nothing was read after the prefix, the prefix is the file
 pub front_ends : (files : Option Files) (name bytes buffer : List ℕ) (place n : ℕ) → place ≡ length bytes → n ≡ 0 → HasFront files name bytes → Reads files name place n buffer → HasFile files name bytes
 front_ends None name bytes buffer place n at none front read = tt
 front_ends (Some files) name bytes buffer place n at none front read =

@@ -13,7 +13,7 @@ use Rattle.sa_parser.specs.declared.file.ParsedFiles.{ParsedFiles}
 use Rattle.sa_parser.specs.Classes.{Written, IsFile, parsed_of}
 use Rattle.sa_ast.specs.declared.refusal.Refusal.{Refusal}
 use Rattle.sa_ast.specs.declared.refusal.Rejection.{Rejection}
-use Rattle.sa_ast.specs.declared.refusal.Rejection.TheVariants.{Refused, NoMemory}
+use Rattle.sa_ast.specs.declared.refusal.Rejection.TheVariants.{Refused, Failed}
 use Rattle.sa_read.specs.SourceFiles.{at}
 
 -- the text has tokens
@@ -41,18 +41,18 @@ abbrev pub file_kind_of : ℕ → FileKind
 file_kind_of zero = Prelude
 file_kind_of (suc number) = Program
 
--- the text with this number spells these classes: it has tokens, none of which breaks a rule, and their lexemes spell them
+-- the text with this index spells these classes: it has tokens, none of which breaks a rule, and their lexemes spell them
 pub record IsSpelled (texts : List (List ℕ)) (number : ℕ) (written : List Written) : Type 0 where
   pub tokens : List Token
   pub of_text : AreTokensOf (at texts number) tokens
   pub taken : AreTaken tokens (length tokens)
   pub spelled : IsFile (file_kind_of number) (lexemes_of number (at texts number) tokens) written
 
--- what was parsed are the classes that this text spells, with their contracts. Its first class has the place `first`
+-- what was parsed are the classes that this text spells, with their contracts. Its first class has the index `first`
 abbrev pub IsParsedOf : List (List ℕ) → ℕ → ℕ → ParsedFiles → Type 0
 IsParsedOf texts number first parsed = (written : List Written) × IsSpelled texts number written × (parsed ≡ parsed_of first written)
 
--- what was parsed are the classes that the first n texts spell, one behind the other, with their contracts
+-- what was parsed are the classes that the first n texts spell, in the order of the texts, with their contracts
 pub record IsParsedUpTo (texts : List (List ℕ)) (n : ℕ) (parsed : ParsedFiles) : Type 0 where
   pub written : List (List Written)
   pub count : length written ≡ n
@@ -67,11 +67,11 @@ IsProgramOf texts parsed = IsParsedUpTo texts (length texts) parsed
 abbrev pub AreSpelled : List (List ℕ) → Type 0
 AreSpelled texts = (parsed : ParsedFiles) × IsProgramOf texts parsed
 
--- what comes of texts that are this program: it, unless memory runs out
+-- the result for texts that are this program: it, unless memory runs out
 abbrev pub GivesProgram : ParsedFiles → Result ParsedFiles Rejection → Type 0
 GivesProgram parsed (Ok found) = found ≡ parsed
 GivesProgram parsed (Err (Refused refusal)) = ⊥
-GivesProgram parsed (Err NoMemory) = ⊤
+GivesProgram parsed (Err (Failed why)) = ⊤
 
 -- the refusal is the first lexical fault of the first text that has no tokens
 pub record IsLexicalFault (texts : List (List ℕ)) (refusal : Refusal) : Type 0 where
@@ -88,7 +88,7 @@ pub record IsBreach (texts : List (List ℕ)) (refusal : Refusal) : Type 0 where
   pub of_text : AreTokensOf (at texts refusal.pos.file) tokens
   pub breach : IsFirstBreach tokens refusal
 
--- at this place stands the first lexeme with which those up to it begin no file; or it is their end, and they begin one but are none
+-- at this index is the first lexeme with which those up to it begin no file; or it is their end, and they begin one but are none
 pub record IsFirstUnexpected (file_kind : FileKind) (ls : List Lexeme) (place : ℕ) : Type 0 where
   pub longest : IsLongest (IsFile file_kind) ls (take place ls) (drop place ls)
   pub unended : drop place ls ≡ [] → (written : List Written) → IsFile file_kind ls written → ⊥
@@ -99,7 +99,7 @@ pub record IsUnexpectedIn (text : List ℕ) (number : ℕ) (tokens : List Token)
   pub first : IsFirstUnexpected (file_kind_of number) (lexemes_of number text tokens) place
   pub fault : Refused refusal ≡ unexpected_at number text tokens place
 
--- all texts may be parsed, each one before that of the refusal spells classes, and the refusal is E06 where this one goes on as no file
+-- all texts may be parsed, each one before that of the refusal spells classes, and the refusal is E06 where this one continues as no file
 pub record IsGrammarFault (texts : List (List ℕ)) (refusal : Refusal) : Type 0 where
   pub taken : IsReadUpTo texts (length texts)
   pub within : refusal.pos.file < length texts
@@ -114,10 +114,10 @@ IsRefusalOf texts refusal = IsLexicalFault texts refusal ⊎ (IsBreach texts ref
 
 abbrev pub RefusesProgram : List (List ℕ) → Rejection → Type 0
 RefusesProgram texts (Refused refusal) = IsRefusalOf texts refusal
-RefusesProgram texts NoMemory = ⊤
+RefusesProgram texts (Failed why) = ⊤
 
--- a text is refused for the first of its tokens that breaks a rule, or else for the first with which no file goes on
+-- a text is refused for the first of its tokens that breaks a rule, or else for the first with which no file continues
 abbrev pub RefusesFile : List ℕ → ℕ → List Token → Rejection → Type 0
 RefusesFile text number tokens (Refused refusal) =
     RefusesTokens tokens number (Refused refusal) ⊎ IsUnexpectedIn text number tokens refusal
-RefusesFile text number tokens NoMemory = ⊤
+RefusesFile text number tokens (Failed why) = ⊤

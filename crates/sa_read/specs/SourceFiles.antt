@@ -1,4 +1,4 @@
--- The texts of a program.
+-- The source texts of a program.
 use Rattle.std.specs.Prelude.{◌≡◌, ℕ, ◌+◌, ◌<◌, ◌≤◌, List, [], ◌∷◌, codes, length, suc, sum_by, take, Option, None, Some, slice_index_or}
 use Rattle.host_io.specs.Files.{Files, Lacks}
 use Rattle.sa_prelude.specs.PreludeText.{prelude_text}
@@ -8,7 +8,7 @@ use Rattle.sa_ast.specs.declared.rule.Rule.TheVariants.{SourceTooLarge}
 use Rattle.sa_read.specs.FileContents.{HasFile, HasLonger}
 use Rattle.sa_read.specs.declared.source_files.SourceFiles.{SourceFiles}
 
--- the item at a place, from 0
+-- the text at an index, from 0
 abbrev pub at : List (List ℕ) → ℕ → List ℕ
 at items place = slice_index_or items place []
 
@@ -24,15 +24,15 @@ most = length prelude_text + 4194304
 abbrev pub no_files : Sources
 no_files = record { names = codes "prelude" ∷ []; texts = prelude_text ∷ [] }
 
--- the refusal of the file with this number, which is too large from this byte on
+-- the refusal of the file with this index, which is too large from this byte on
 abbrev pub too_large : ℕ → ℕ → Refusal
 too_large number room = record { rule = SourceTooLarge; pos = record { file = number; at = room } }
 
--- the first n files have their texts behind the prelude's
+-- the first n files have their texts after the prelude's
 abbrev pub HaveTexts : Option Files → List (List ℕ) → List (List ℕ) → ℕ → Type 0
 HaveTexts files names texts n = (k : ℕ) → k < n → HasFile files (at names k) (at texts (suc k))
 
--- the first n names name the texts behind the prelude's, which are that many
+-- the first n names name the texts after the prelude's, which are that many
 pub record AreNamed (names : List (List ℕ)) (sources : Sources) (n : ℕ) : Type 0 where
   pub named : sources.names ≡ codes "prelude" ∷ take n names
   pub first : at sources.texts 0 ≡ prelude_text
@@ -63,7 +63,7 @@ IsReadAs files names sources (Some refusal) = IsCut files names sources refusal
 abbrev pub IsReadFrom : Option Files → List (List ℕ) → SourceFiles → Type 0
 IsReadFrom files names program = IsReadAs files names program.sources program.cut
 
--- the store tells that it lacks one of these files, and those before it were read to their ends and are small enough together
+-- the store says that it lacks one of these files, and those before it were read to their ends and are small enough together
 pub record LacksOneOf (files : Option Files) (names : List (List ℕ)) : Type 0 where
   pub number : ℕ
   pub there : number < length names

@@ -6,16 +6,17 @@ ghost use Rattle.sa_read.specs.Front.{AreTokensOfTexts, GivesProgram, IsParsedOf
 ghost use Rattle.sa_read.specs.SourceFiles.{at};
 
 use crate::tokens::{lex_all, scan_all};
-use sa_ast::{NoMemory, Rejection};
+use failure::{Failure, limit};
+use sa_ast::Rejection;
 use sa_lexer::Token;
 use sa_parser::{FileKind, ParsedFiles, parse};
 use sqlite_items::Items;
 use std::alloc::{AllocError, Global};
 
-/// The places of classes are below this.
+/// The indices of classes are less than this.
 const MOST_PLACES: usize = u32::MAX as usize;
 
-/// The classes of a program's texts, in order, and the contracts of these. The first text is the prelude's.
+/// The classes of a program's texts, in order, and their contracts. The first text is the prelude's.
 ///
 /// # Errors
 ///
@@ -34,7 +35,7 @@ pub fn parse_program(alloc: Global, texts: &[Items<u8>]) -> Result<ParsedFiles, 
     parse_all(alloc, texts, lists.as_slice())
 }
 
-/// What the tokens of each text spell.
+/// The classes that the tokens of each text spell.
 fn parse_all(
     alloc: Global,
     texts: &[Items<u8>],
@@ -59,7 +60,7 @@ fn parse_all(
     Ok(parsed)
 }
 
-/// Puts what a file declares behind what is there.
+/// Adds what a file declares after what is there.
 fn append(parsed: &mut ParsedFiles, file: ParsedFiles) -> Result<(), AllocError>
     ensures classes { OnOk result (parsed.new.classes ≡ parsed.old.classes ++ file.classes) }
     ensures contracts { OnOk result (parsed.new.contracts ≡ parsed.old.contracts ++ file.contracts) }
@@ -69,17 +70,17 @@ fn append(parsed: &mut ParsedFiles, file: ParsedFiles) -> Result<(), AllocError>
     parsed.contracts.append(contracts)
 }
 
-/// The place of the class behind so many, where those of so many tokens can be numbered from there.
-fn first_place(classes: usize, tokens: usize) -> Result<u32, NoMemory>
+/// The index of the class after so many, where those of so many tokens can be numbered from there.
+fn first_place(classes: usize, tokens: usize) -> Result<u32, Failure>
     ensures { IfOk result (λ first. (first ≡ classes) × (classes + tokens < 4294967295)) }
 {
     if tokens >= MOST_PLACES || classes >= MOST_PLACES - tokens {
-        return Err(NoMemory);
+        return limit();
     }
     Ok(classes as u32)
 }
 
-/// What the text with this number spells, whose first class has the place `first`. The first text alone is the prelude's.
+/// The classes that the text with this index spells, the first of which has the index `first`. The first text alone is the prelude's.
 fn parse_text(
     alloc: Global,
     texts: &[Items<u8>],

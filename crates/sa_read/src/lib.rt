@@ -1,5 +1,5 @@
-//! Reads a program: its files through a store, and their texts to classes and contracts, up to the first refusal by the size
-//! of the files, the tokens, their levels and words, and the grammar, in this order.
+//! Reads a program: its files through a store, and their texts into classes and contracts, up to the first refusal by the size of
+//! the files, the tokens, their levels and words, and the grammar, in this order.
 #![tactic(auto)]
 
 mod front;

@@ -11,12 +11,12 @@ use std::alloc::{AllocError, Global};
 /// How many bytes are asked of a store at once.
 const PIECE: usize = 65_536;
 
-/// What was read of a file.
+/// The bytes that were read of a file.
 #[derive(Debug, Drop)]
 pub enum FileContents {
     /// All of its bytes.
     Whole(Vec<u8>),
-    /// The bytes up to the limit, behind which it has more.
+    /// The bytes up to the limit, after which it has more.
     Cut(Vec<u8>),
 }
 

@@ -1,4 +1,4 @@
-//! The texts of a program: the prelude's, and those of the command's files in order.
+//! The source texts of a program: the prelude's, and those of the command's files in order.
 
 ghost use Rattle.std.specs.Prelude.{◌<◌, All, length, ◌≡◌, ◌≤◌, ◌⊎◌, ◌++◌, ◌∷◌, [], map, codes, IfOk, OnOk, IsErrOf};
 ghost use Rattle.host_io.specs.Faults.{Rose};
@@ -12,15 +12,15 @@ use sa_prelude::text;
 use sqlite_items::Items;
 use std::alloc::{AllocError, Global};
 
-/// How many bytes the files of a command have at most, together.
+/// The most bytes that the files of a command have together.
 pub const MOST_BYTES: usize = 4_194_304;
 
-/// What was read of a program's files.
+/// The texts of a program's files, as far as they were read.
 #[derive(Drop)]
 pub struct SourceFiles {
-    /// The texts that were read, behind the prelude's.
+    /// The texts that were read, after the prelude's.
     pub sources: Sources,
-    /// The refusal of a file that is too large, of which the text has what goes before.
+    /// The refusal of a file that is too large. Its text is then what comes before the refused byte.
     pub cut: Option<Refusal>,
 }
 
@@ -76,7 +76,7 @@ pub fn prelude(alloc: Global) -> Result<Sources, AllocError>
     Ok(Sources { names, texts })
 }
 
-/// Adds a text behind the others. Where memory runs out, the name alone may have been added.
+/// Adds a text after the others. Where memory runs out, the name alone may have been added.
 fn add(alloc: Global, sources: &mut Sources, name: &str, text: Vec<u8>) -> Result<(), AllocError>
     ensures names { OnOk result (sources.new.names ≡ sources.old.names ++ name.now ∷ []) }
     ensures texts { OnOk result (sources.new.texts ≡ sources.old.texts ++ text.items ∷ []) }
@@ -88,10 +88,10 @@ fn add(alloc: Global, sources: &mut Sources, name: &str, text: Vec<u8>) -> Resul
     Ok(())
 }
 
-/// How many files a command has at most: it has at most 65,535 words.
+/// The most files that a command has: it has at most 65,535 arguments.
 const MOST_FILES: usize = 65_535;
 
-/// The number of the text behind so many.
+/// The index of the text after so many.
 fn number(texts: usize) -> Result<u32, ReadFault>
     ensures value { IfOk result (λ number. (number ≡ texts) × (texts ≤ MOST_FILES)) }
     ensures memory { IsErrOf result ReadFault.Failed → ⊥ }
@@ -102,7 +102,7 @@ fn number(texts: usize) -> Result<u32, ReadFault>
     Ok(texts as u32)
 }
 
-/// The refusal of the file with this number at the first byte past the room.
+/// The refusal of the file with this index at the first byte past the room.
 fn too_large(number: u32, room: usize) -> Refusal
     requires { room ≤ MOST_BYTES }
     ensures { result ≡ too_large number room }

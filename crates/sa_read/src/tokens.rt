@@ -26,7 +26,7 @@ pub(crate) fn lex_all(alloc: Global, texts: &[Items<u8>]) -> Result<Items<Items<
     Ok(lists)
 }
 
-/// The tokens of the text with this number.
+/// The tokens of the text with this index.
 fn lex_text(alloc: Global, texts: &[Items<u8>], number: usize) -> Result<Items<Token>, Rejection>
     requires short { All (λ text. length text < 4294967295) texts.now }
     requires few { length texts.now < 4294967295 }
@@ -38,8 +38,8 @@ fn lex_text(alloc: Global, texts: &[Items<u8>], number: usize) -> Result<Items<T
     Ok(Items::from_vec(tokens))
 }
 
-/// Whether a parser may go over the tokens of each text: they hold no word that the profile refuses, and nest at most
-/// 200 levels.
+/// Whether a parser may go over the tokens of each text: none of them is a word that the profile refuses, and they nest at most 200
+/// levels.
 pub(crate) fn scan_all(
     alloc: Global,
     texts: &[Items<u8>],
@@ -56,7 +56,7 @@ pub(crate) fn scan_all(
     Ok(())
 }
 
-/// Whether a parser may go over the tokens of the text with this number.
+/// Whether a parser may go over the tokens of the text with this index.
 fn scan_text(
     alloc: Global,
     texts: &[Items<u8>],

@@ -12,8 +12,8 @@ use wa_syntax::opcode::{
     RETURN, SELECT,
 };
 
-/// Ends the feature by `void` where the array is void, and by `index` where it has no element at the place. A void array is
-/// the address 0, where the length is 0; as a number without sign a negative place is greater than each length.
+/// Ends the feature by `void` where the array is void, and by `index` where it has no element of this index. A void array is the address 0,
+/// where the length is 0; as a number without sign a negative index is greater than each length.
 const HAS_ELEMENT: Template = Sequence(&[
     Line(&[Get(FIRST), Get(SELF), TO_ADDRESS, LOAD_LENGTH]),
     Line(&[Do(I64_GE_U)]),
@@ -23,7 +23,7 @@ const HAS_ELEMENT: Template = Sequence(&[
     ]),
 ]);
 
-/// The address of the array's element at the place, but for the attributes that stand before the elements.
+/// The address of the array's element of this index, but for the attributes, which are before the elements.
 const ELEMENT: Template = Sequence(&[
     Line(&[Get(FIRST), I64(3), Do(I64_SHL)]),
     Line(&[Get(SELF), Do(I64_ADD), TO_ADDRESS]),
@@ -32,7 +32,7 @@ const ELEMENT: Template = Sequence(&[
 /// `AREF.asize`.
 pub(crate) const ASIZE: &[Template] = &[Line(&[Get(SELF), TO_ADDRESS, LOAD_LENGTH]), GIVE_WORD];
 
-/// `AREF.aget`. The parameter behind the place is how many bytes the array's address stands before its first element.
+/// `AREF.aget`. The parameter after the index is the offset of the first element from the array's address, in bytes.
 pub(crate) const AGET: &[Template] = &[
     HAS_ELEMENT,
     ELEMENT,
@@ -40,7 +40,7 @@ pub(crate) const AGET: &[Template] = &[
     GIVE_WORD,
 ];
 
-/// `AREF.aset`. The parameter behind the value is how many bytes the array's address stands before its first element.
+/// `AREF.aset`. The parameter after the value is the offset of the first element from the array's address, in bytes.
 pub(crate) const ASET: &[Template] = &[
     HAS_ELEMENT,
     ELEMENT,
@@ -49,8 +49,8 @@ pub(crate) const ASET: &[Template] = &[
     DONE,
 ];
 
-/// `ARRAY.create`. The parameters behind the number of elements are the type, and how many bytes the array's address stands
-/// before its first element.
+/// `ARRAY.create`. The parameters after the number of elements are the type, and the offset of the first element from the array's address,
+/// in bytes.
 pub(crate) const CREATE: &[Template] = &[
     Line(&[Get(FIRST), I64(0), Do(I64_LT_S)]),
     INDEX_IF,

@@ -1,4 +1,4 @@
-//! The features of `BOOL` beside equality.
+//! The features of `BOOL` except equality.
 
 use crate::answers::GIVE_ADDRESS;
 use crate::locals::SELF;

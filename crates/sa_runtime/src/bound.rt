@@ -1,5 +1,4 @@
-//! `BOUND_CALL`: the call of a bound value. What it calls stands in the words of its bind, so the function is the same in each
-//! program.
+//! `BOUND_CALL`: the call of a bound value. The words of its bind say what it calls, so the function is the same in each program.
 
 use crate::bound_features::emit_features;
 use crate::bound_locals::{BEHIND_BOUND, DEPTH, ENTRY, FRAME, INDEX, KIND, OBJECT, SELF, STATUS};
@@ -17,14 +16,15 @@ use crate::template_ops::TemplateOp::{
 use crate::templates::Template::{self, Block, EmitEvent, EmitOutcome, If, IfElse, Line, Sequence};
 use crate::templates::{emit_templates, instructions, locals};
 use crate::trace::{TraceEvent, Tracing};
+use failure::Failure;
 use std::alloc::Global;
+use wa_syntax::Func;
 use wa_syntax::opcode::{
     I32_ADD, I32_EQ, I32_EQZ, I32_LE_U, I32_LOAD, I32_LT_U, I32_NE, I32_SUB, I64_AND, I64_LOAD,
     I64_SHR_U, RETURN,
 };
-use wa_syntax::{Func, NoMemory};
 
-/// Where a bound value has its receiver.
+/// The offset of the receiver in a bound value, in bytes.
 const RECEIVER_AT: u32 = 8;
 
 /// Reads the words of the bind and the receiver.
@@ -35,8 +35,8 @@ const READ_BIND: Template = Sequence(&[
     Line(&[Get(OBJECT), Memory(I64_LOAD, RECEIVER_AT), Set(SELF)]),
 ]);
 
-/// Where the receiver's class chose what is called, takes its place in the table from above the receiver's address. The forms
-/// of what was chosen stand in the same order as those of what is called by its place.
+/// Where the receiver's class chose what is called, takes its index in the table from the half word above the receiver's address. The forms
+/// of what was chosen are in the same order as those of what is called by its index.
 const READ_CHOSEN: Template = Sequence(&[
     Line(&[Get(KIND), I32(ROUTINE), Do(I32_LT_U)]),
     If(&[
@@ -47,7 +47,7 @@ const READ_CHOSEN: Template = Sequence(&[
     ]),
 ]);
 
-/// Hands on the fault of an activation that would nest too deep.
+/// Forwards the fault of an activation that would nest too deep.
 const DEPTH_TEST: Template = Sequence(&[
     Line(&[Get(DEPTH), Do(I32_EQZ)]),
     If(&[
@@ -59,13 +59,13 @@ const DEPTH_TEST: Template = Sequence(&[
 /// One activation more.
 const DEEPER: Template = Line(&[Get(DEPTH), I32(1), Do(I32_SUB), Set(DEPTH)]);
 
-/// The own object, how much deeper activations may nest, the frame, and the place in the table: what stands behind the arguments.
+/// `self`, how much deeper activations may nest, the frame, and the index in the table: the operands after the arguments.
 const BEHIND_ARGUMENTS: Template = Line(&[Get(SELF), Get(DEPTH), Get(FRAME), Get(INDEX)]);
 
 /// The number of arguments of what is called.
 const COUNT: Template = Line(&[Get(ENTRY), Memory(I32_LOAD, COUNT_AT)]);
 
-/// Reads the first argument, and those behind it.
+/// Reads the first argument, and those after it.
 const FIRST: Template = Line(&[I32(0), Memory(I64_LOAD, FIRST_ARGUMENT_AT)]);
 
 const SECOND: Template = Line(&[I32(0), Memory(I64_LOAD, FIRST_ARGUMENT_AT + 8)]);
@@ -120,14 +120,14 @@ const CALL_ROUTINE: Template = Sequence(&[
     If(&[DEPTH_TEST, DEEPER, CALL, Line(&[Br(1)])]),
 ]);
 
-/// Calls a body that was made for an implementation, where that is the form. It is no activation: it tests the depth itself
-/// where it enters one, and takes and gives back the frame.
+/// Calls an adapter, where that is the form. It is no activation: it tests the depth itself where it enters one, and allocates and frees
+/// the frame.
 const CALL_MADE: Template = Sequence(&[
     Line(&[Get(KIND), I32(MADE), Do(I32_EQ)]),
     If(&[CALL, Line(&[Br(1)])]),
 ]);
 
-/// Takes a frame for an iter that begins, or hands on the fault that all are taken. Where there is one, the iter goes on.
+/// Allocates a frame for an iter that begins, or forwards the fault that none is free. Where there is a frame already, the iter is resumed.
 const TAKE_FRAME: Template = Sequence(&[
     Line(&[Get(FRAME), Do(I32_EQZ)]),
     IfElse(
@@ -143,7 +143,7 @@ const TAKE_FRAME: Template = Sequence(&[
     ),
 ]);
 
-/// Calls an iter, or goes on in it. Its frame is given back where it isn't suspended, and nothing is copied back then.
+/// Calls an iter, or resumes it. Its frame is freed where it isn't suspended, and nothing is copied out then.
 const CALL_ITER: Template = Sequence(&[
     DEPTH_TEST,
     TAKE_FRAME,
@@ -155,8 +155,7 @@ const CALL_ITER: Template = Sequence(&[
     Line(&[Get(FRAME), SetGlobal(FRAME_OUT)]),
 ]);
 
-/// Calls a body and answers its status, where that is the form. Nobody reads the arguments behind a raise, so they may be put
-/// back then too.
+/// Calls a body and returns its status, where that is the form. Nobody reads the arguments after a raise, so they may be put back then too.
 const CALL_BODY: Template = Sequence(&[
     Line(&[Get(KIND), I32(MADE), Do(I32_LE_U)]),
     If(&[
@@ -166,7 +165,7 @@ const CALL_BODY: Template = Sequence(&[
     ]),
 ]);
 
-/// Hands on the fault of a feature without a body, where its status isn't 0.
+/// Forwards the fault of a feature without a body, where its status isn't 0.
 const ANSWER_STATUS: Template = Sequence(&[
     Line(&[Get(STATUS)]),
     If(&[
@@ -176,9 +175,9 @@ const ANSWER_STATUS: Template = Sequence(&[
     Line(&[I32(RETURNED)]),
 ]);
 
-/// `BOUND_CALL`, of the depth of the activation that calls, the frame to go on with or 0, and the bound value. It answers the
-/// status of a body; the faults of features without one are handed on, and so are those of the depth and of the frames.
-pub(crate) fn bound_call(alloc: Global, tracing: Tracing) -> Result<Func, NoMemory> {
+/// `BOUND_CALL`, of the depth of the calling activation, the frame to resume or 0, and the bound value. It returns the status of a body;
+/// the faults of features without one are forwarded, and so are those of the depth and of the frames.
+pub(crate) fn bound_call(alloc: Global, tracing: Tracing) -> Result<Func, Failure> {
     let mut body = instructions(alloc, &[READ_BIND, READ_CHOSEN, SPREAD, CALL_BODY], tracing)?;
     emit_features(alloc, tracing, &mut body)?;
     emit_templates(alloc, &[ANSWER_STATUS], tracing, &mut body)?;

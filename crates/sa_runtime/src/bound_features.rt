@@ -15,12 +15,13 @@ use crate::template_ops::emit_ops;
 use crate::templates::Template::{self, If, Line, Sequence};
 use crate::templates::{emit_templates, instructions};
 use crate::trace::Tracing;
+use failure::{Failure, Invariant};
 use sqlite_items::Items;
 use std::alloc::Global;
+use wa_syntax::Instr;
 use wa_syntax::opcode::{
     I32_ADD, I32_EQ, I32_LOAD, I64_EQZ, I64_LOAD, I64_NE, I64_STORE, RETURN, UNREACHABLE,
 };
-use wa_syntax::{Instr, NoMemory};
 
 /// The first argument, as an operand.
 const FIRST_ARGUMENT: Template = Line(&[I32(0), Memory(I64_LOAD, FIRST_ARGUMENT_AT)]);
@@ -31,10 +32,10 @@ const SECOND_ARGUMENT: Template = Line(&[I32(0), Memory(I64_LOAD, FIRST_ARGUMENT
 /// The number of the class, as an operand.
 const CLASS: Template = Line(&[Get(ENTRY), Memory(I32_LOAD, TYPE_AT)]);
 
-/// Where the elements of an array begin, or the number of attributes, as an operand.
+/// The offset of the elements of an array, or the number of attributes, as an operand.
 const FIRST: Template = Line(&[Get(ENTRY), Memory(I32_LOAD, FIRST_AT)]);
 
-/// The address of the attribute of the own object, as an operand.
+/// The address of the attribute of `self`, as an operand.
 const ATTRIBUTE: Template = Line(&[Get(SELF), TO_ADDRESS, Get(INDEX), Do(I32_ADD)]);
 
 /// Reads the attribute.
@@ -43,10 +44,10 @@ const READ_ATTRIBUTE: Template = Sequence(&[
     Line(&[Memory(I64_LOAD, 0), SetGlobal(RESULT)]),
 ]);
 
-/// Answers that the feature has returned.
+/// Returns with the status of a body that has returned.
 const RETURN_DONE: Template = Line(&[I32(RETURNED), Do(RETURN)]);
 
-/// Hands on the fault of an own object that is void.
+/// Forwards the fault of a void `self`.
 const VOID_TEST: Template = Sequence(&[
     Line(&[Get(SELF), Do(I64_EQZ)]),
     If(&[
@@ -126,7 +127,7 @@ const ATTRIBUTES_AND_SHAREDS: &[Template] = &[
     WRITE_SHARED,
 ];
 
-/// What a built-in feature takes behind `self`, at the place that is the number of its type.
+/// What a built-in feature takes after `self`, by the number of its type.
 const OPERANDS: [&[Template]; 6] = [
     &[],
     &[FIRST_ARGUMENT],
@@ -136,13 +137,12 @@ const OPERANDS: [&[Template]; 6] = [
     &[FIRST_ARGUMENT, CLASS, FIRST],
 ];
 
-/// Adds a block that calls the feature. Behind it the status is 0 or the number of a fault; features that end otherwise answer
-/// at once.
+/// Emits a block that calls the feature. After it the status is 0 or the number of a fault; features that end otherwise return at once.
 pub(crate) fn emit_features(
     alloc: Global,
     tracing: Tracing,
     to: &mut Items<Instr>,
-) -> Result<(), NoMemory> {
+) -> Result<(), Failure> {
     let mut tests = instructions(alloc, ATTRIBUTES_AND_SHAREDS, tracing)?;
     for (number, function) in BUILTINS.iter().enumerate() {
         emit_builtin(alloc, tracing, &mut tests, number as u32, function.0)?;
@@ -152,14 +152,14 @@ pub(crate) fn emit_features(
     Ok(())
 }
 
-/// Adds the call of the built-in feature with this number, where that is the form. It leaves the block with the status.
+/// Emits the call of the built-in feature with this number, where that is the form. It leaves the block with the status.
 fn emit_builtin(
     alloc: Global,
     tracing: Tracing,
     to: &mut Items<Instr>,
     number: u32,
     ty: u32,
-) -> Result<(), NoMemory> {
+) -> Result<(), Failure> {
     let mut called = Items::new(alloc);
     emit_ops(&mut called, &[Get(SELF)])?;
     emit_templates(alloc, operands(ty)?, tracing, &mut called)?;
@@ -171,15 +171,15 @@ fn emit_builtin(
     Ok(())
 }
 
-/// What a built-in feature of the type with this number takes behind `self`.
-fn operands(ty: u32) -> Result<&'static [Template], NoMemory> {
+/// What a built-in feature of the type with this number takes after `self`.
+fn operands(ty: u32) -> Result<&'static [Template], Failure> {
     match OPERANDS.get(ty as usize) {
         Some(parts) => Ok(parts),
         None => Err(no_such_type()),
     }
 }
 
-/// The answer for a type that no built-in feature has.
-fn no_such_type() -> NoMemory {
-    NoMemory
+/// The error for a type that no built-in feature has.
+fn no_such_type() -> Failure {
+    Failure::Broken(Invariant::TableIndex)
 }

@@ -2,16 +2,16 @@
 
 use crate::templates::LocalCounts;
 
-/// The parameter with the depth of the activation that calls.
+/// The parameter with the depth of the calling activation.
 pub(crate) const DEPTH: u32 = 0;
 
-/// The parameter with the frame that a resumption goes on with, or 0; and then the frame that was taken.
+/// The parameter with the frame that is resumed, or 0; and then the frame that was allocated.
 pub(crate) const FRAME: u32 = 1;
 
 /// The parameter with the address of the bound value, which isn't void.
 pub(crate) const OBJECT: u32 = 2;
 
-/// The own object of what is called, the one local of 64 bits.
+/// `self` of what is called, the one local of 64 bits.
 pub(crate) const SELF: u32 = 3;
 
 /// The address of the words of the bind.
@@ -20,26 +20,26 @@ pub(crate) const ENTRY: u32 = 4;
 /// What is called: the number of a form.
 pub(crate) const KIND: u32 = 5;
 
-/// The place in the table, of an attribute in its object, or of a shared in memory.
+/// The index in the table, the offset of an attribute in its object, or the address of a shared.
 pub(crate) const INDEX: u32 = 6;
 
 /// The status of what was called.
 pub(crate) const STATUS: u32 = 7;
 
-/// How many arguments the bound value keeps.
+/// How many arguments the bound value captures.
 pub(crate) const GIVEN: u32 = 8;
 
-/// The number of an argument of what is called.
+/// The index of an argument of what is called.
 pub(crate) const PLACE: u32 = 9;
 
-/// How many bytes behind the first argument that argument stands.
+/// The offset of that argument from the first one, in bytes.
 pub(crate) const AT: u32 = 10;
 
-/// How many bytes behind the first argument an open one stands where the call handed it over.
+/// The offset from the first argument at which the call passed an open one, in bytes.
 pub(crate) const HANDED: u32 = 11;
 
-/// The address of the bound value and 8 bytes more for each of its arguments that isn't in its place yet.
+/// The address of the bound value and 8 bytes more for each of its arguments that isn't in its position yet.
 pub(crate) const KEPT: u32 = 12;
 
-/// All locals behind the parameters.
+/// All locals after the parameters.
 pub(crate) const BEHIND_BOUND: LocalCounts = LocalCounts(1, 9);

@@ -8,7 +8,7 @@ use crate::{
     output, texts,
 };
 
-/// The built-in features, each at the place that is its number.
+/// The built-in features, by their numbers.
 pub(crate) const BUILTINS: [Function; 33] = [
     // BOOL
     Function(BINARY, NONE, comparisons::EQUAL),

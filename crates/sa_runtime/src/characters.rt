@@ -1,4 +1,4 @@
-//! The features of `CHAR` beside comparisons.
+//! The features of `CHAR` except comparisons.
 
 use crate::answers::{GIVE_ADDRESS, GIVE_WORD};
 use crate::locals::{MADE, SELF, SIZE};

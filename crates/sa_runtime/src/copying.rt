@@ -1,5 +1,5 @@
-//! Loops over the bytes of texts and the words of objects. They take 8 bytes in a round, and the fewer than 8 behind them one
-//! by one, so that nothing is read or written behind the last byte.
+//! Loops over the bytes of texts and the words of objects. They take 8 bytes in a round, and the fewer than 8 after them one by one, so
+//! that nothing is read or written after the last byte.
 
 use crate::locals::{FROM, LEFT, TO};
 use crate::template_ops::TemplateOp::{Br, BrIf, Do, Get, I32, Memory, Set};

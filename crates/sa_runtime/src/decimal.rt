@@ -31,13 +31,13 @@ const IS_NEGATIVE: Template = Line(&[Get(NUMBER), I64(0), Do(I64_LT_S)]);
 /// Changes the sign of the number.
 const NEGATE: Template = Line(&[I64(0), Get(NUMBER), Do(I64_SUB), Set(NUMBER)]);
 
-/// Leaves the block around the loop where the number has no digit above the power.
+/// Leaves the block around the loop where the number has no digit more significant than the power.
 const LEAVE_AT_FIRST_DIGIT: Template = Sequence(&[
     Line(&[Get(NUMBER), Get(POWER), Do(I64_DIV_U)]),
     Line(&[I64(10), Do(I64_LT_U), BrIf(1)]),
 ]);
 
-/// Goes on to the digit above.
+/// Goes on to the next more significant digit.
 const DIGIT_ABOVE: Template = Line(&[Get(POWER), I64(10), Do(I64_MUL), Set(POWER)]);
 
 /// The byte of the digit at the power.
@@ -46,7 +46,7 @@ const DIGIT: Template = Sequence(&[
     Line(&[I64(ZERO), Do(I64_ADD)]),
 ]);
 
-/// Takes that digit from the number, and goes on to the digit below: whether there is one.
+/// Takes that digit from the number, and goes on to the next less significant one: whether there is one.
 const DIGIT_BELOW: Template = Sequence(&[
     Line(&[Get(NUMBER), Get(POWER), Do(I64_REM_U), Set(NUMBER)]),
     Line(&[Get(POWER), I64(10), Do(I64_DIV_U), Tee(POWER)]),

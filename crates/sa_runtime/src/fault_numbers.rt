@@ -11,7 +11,7 @@ pub(crate) const DIVISION_BY_ZERO: u32 = FaultKind::DivisionByZero as u32;
 /// A receiver, or what is raised, is void.
 pub const VOID: u32 = FaultKind::Void as u32;
 
-/// A place or a count is out of range.
+/// An index or a count is out of range.
 pub const INDEX: u32 = FaultKind::Index as u32;
 
 /// What is asserted is false. The faults with greater numbers stop the program; the others raise an exception.

@@ -11,16 +11,16 @@ use wa_syntax::opcode::{I32_EQZ, I32_GT_U, I64_STORE, RETURN};
 /// The parameter with the number of the fault.
 const KIND: u32 = 0;
 
-/// The parameter with the place that the fault stands at.
+/// The parameter with the position of the fault.
 const PLACE: u32 = 1;
 
-/// The parameter with the line of that place.
+/// The parameter with the line of that position.
 const LINE: u32 = 2;
 
 /// How many bytes an object of `FAULT` has: a header, the number of the fault and its line.
 const BYTES: u64 = 24;
 
-/// `FAULT`. Where the room lacks for the exception, the program stops.
+/// `FAULT`. Where there is no room for the exception, the program stops.
 pub(crate) const FAULT: &[Template] = &[
     Block(&[
         Line(&[Get(KIND), I32(ASSERT), Do(I32_GT_U), BrIf(0)]),

@@ -1,4 +1,4 @@
-//! The frames of instances of iters, given back with those of the instances inside. A frame is a slot of the pool by its address.
+//! The frames of instances of iters, freed with those of the instances inside. A frame is a slot of the pool by its address.
 
 use crate::layout::{END_FRAME, INSIDE_AT, SIBLING_AT};
 use crate::signatures::GIVES_FRAME;
@@ -14,7 +14,7 @@ const FRAME: u32 = 0;
 /// The first of the instances inside a frame, or the one around it.
 const OTHER: u32 = 1;
 
-/// The one local behind the parameter.
+/// The one local after the parameter.
 const ONE_LOCAL: LocalCounts = LocalCounts(0, 1);
 
 /// Goes from a frame to the first of the instances inside it, which is the local: the list inside the frame then begins with
@@ -26,9 +26,9 @@ const GO_INSIDE: &[Template] = &[
     Line(&[Get(OTHER), Set(FRAME), Br(1)]),
 ];
 
-/// What `RELEASE` does with a frame. Each frame comes behind those of the instances inside it, and these in the order of
-/// their list. The link to the instance around a frame is read before the frame is given back, since the pool's link then
-/// stands there. That the instance is abandoned is told before that too, by what its frame has.
+/// What `RELEASE` does with a frame. Each frame comes after those of the instances inside it, and these in the order of their list. The
+/// link to the instance around a frame is read before the frame is freed, since the pool's link then takes its word. That the instance is
+/// abandoned is reported before that too, by what its frame has.
 const RELEASE_BODY: &[Template] = &[
     Line(&[Get(FRAME), I32(0), Memory(I32_STORE, SIBLING_AT)]),
     Loop(&[

@@ -1,4 +1,4 @@
-//! The identity of objects, which `SYS` tells.
+//! The identity of objects: the features of `SYS`.
 
 use crate::answers::GIVE_ADDRESS;
 use crate::layout::{BOUND, OBJECT};

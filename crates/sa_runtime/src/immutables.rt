@@ -1,4 +1,4 @@
-//! Immutable values: changed, widened, and as they were before they were widened.
+//! Immutable values: changed, boxed and unboxed.
 
 use crate::answers::{DONE, GIVE_ADDRESS, NO_ROOM_IF};
 use crate::copying::{COPY_WORDS, LEAVE_WITHOUT_BYTE, READ_WORD_ON, WORD_IS_DONE};
@@ -11,7 +11,7 @@ use wa_syntax::opcode::{
     I32_ADD, I32_EQZ, I32_SHL, I64_ADD, I64_LOAD, I64_NE, I64_OR, I64_STORE, RETURN,
 };
 
-/// The header of a widened value without the number of its type.
+/// The header of a boxed value without the number of its type.
 const BOXED_HEADER: u64 = 0x0100_0000 * BOXED_VALUE as u64;
 
 /// Takes the header of an object from the stack, makes the object with `LEFT` bytes of fields, and copies them from the value
@@ -28,8 +28,8 @@ const MAKE_COPY: Template = Sequence(&[
     ]),
 ]);
 
-/// `CHANGED`, of the value, the field, the type, the number of attributes, and how many bytes the address of the value stands
-/// before the field. The copy is charged, even where all its fields are void.
+/// `CHANGED`, of the value, the field, the type, the number of attributes, and the offset of the field from the address of the value, in
+/// bytes. The copy is charged, even where all its fields are void.
 pub(crate) const CHANGED: &[Template] = &[
     Line(&[Get(3), I32(3), Do(I32_SHL), Set(LEFT)]),
     Line(&[Get(2), TO_WORD]),

@@ -11,8 +11,8 @@ use wa_syntax::opcode::{
     I64_REM_S, I64_SUB, I64_XOR,
 };
 
-/// Ends a feature that gives this number, or by `overflow` where it isn't the extension of its low half: the comparison is
-/// the status, since `overflow` has the number 1.
+/// Ends a feature that gives this number, or ends it by `overflow` where it isn't the extension of its low half: the comparison is the
+/// status, since `overflow` has the number 1.
 const GIVE_IN_RANGE: Template = Sequence(&[
     Line(&[Tee(SELF), SetGlobal(RESULT)]),
     Line(&[Get(SELF), TO_ADDRESS, Do(I64_EXTEND_I32_S)]),

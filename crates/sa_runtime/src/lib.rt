@@ -1,5 +1,5 @@
-//! The built-in features of the language, what makes objects, frames and calls of bound values, as functions of a WebAssembly
-//! module.
+//! The runtime system of a compiled program as functions of its WebAssembly module: the built-in features of the language, what makes
+//! objects, frames, calls of bound values and trace records.
 #![tactic(auto)]
 
 mod answers;

@@ -1,5 +1,5 @@
-//! The locals by number. Functions that share a part of their bodies have its locals at the same numbers: no function has more
-//! than five parameters, so the addresses and counts that they work with begin at 5.
+//! The locals by number. Functions that share a template have its locals at the same numbers: no function has more than five parameters, so
+//! the addresses and counts that they work with begin at 5.
 
 use crate::templates::LocalCounts;
 
@@ -18,29 +18,29 @@ pub(crate) const MADE: u32 = 5;
 /// How many bytes the text that the function makes has.
 pub(crate) const SIZE: u32 = 6;
 
-/// Where bytes are read: 8 less than the address of the next one.
+/// Where bytes are read: the address of the next one, less 8.
 pub(crate) const FROM: u32 = 7;
 
-/// Where bytes are written: 8 less than the address of the next one.
+/// Where bytes are written: the address of the next one, less 8.
 pub(crate) const TO: u32 = 8;
 
 /// How many bytes are left to be read.
 pub(crate) const LEFT: u32 = 9;
 
-/// No locals beside the parameters.
+/// No locals besides the parameters.
 pub(crate) const NONE: LocalCounts = LocalCounts(0, 0);
 
-/// All locals behind one parameter.
+/// All locals after one parameter.
 pub(crate) const BEHIND_ONE: LocalCounts = LocalCounts(4, 5);
 
-/// All locals behind two parameters.
+/// All locals after two parameters.
 pub(crate) const BEHIND_TWO: LocalCounts = LocalCounts(3, 5);
 
-/// All locals behind three parameters.
+/// All locals after three parameters.
 pub(crate) const BEHIND_THREE: LocalCounts = LocalCounts(2, 5);
 
-/// All locals behind four parameters.
+/// All locals after four parameters.
 pub(crate) const BEHIND_FOUR: LocalCounts = LocalCounts(1, 5);
 
-/// All locals behind five parameters.
+/// All locals after five parameters.
 pub(crate) const BEHIND_FIVE: LocalCounts = LocalCounts(0, 5);

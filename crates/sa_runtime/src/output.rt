@@ -1,4 +1,4 @@
-//! What is written and read: the features of `OUT` and `IN`, beside decimal digits.
+//! What is written and read: the features of `OUT` and `IN`, except decimal digits.
 
 use crate::answers::{DONE, GIVE_WORD};
 use crate::copying::{

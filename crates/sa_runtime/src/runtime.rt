@@ -10,21 +10,22 @@ use crate::signatures::{BUILTIN_TYPES, FRAME_TYPES, SUPPORT_TYPES, TRACE_TYPES};
 use crate::templates::{func, functions, types};
 use crate::trace::{TraceFunctions, Tracing};
 use crate::trace_functions::event_functions;
+use failure::Failure;
 use sqlite_items::Items;
 use std::alloc::Global;
-use wa_syntax::{Func, FuncTy, NoMemory};
+use wa_syntax::{Func, FuncTy};
 
-/// Functions and their types. The number of a function's type is its place in these types; calls and globals have the numbers
-/// that `layout` gives.
+/// Functions and their types. The number of a function's type is its index in these types; calls and globals have the numbers that `layout`
+/// gives.
 #[derive(Drop)]
 pub struct RuntimeCode {
     pub types: Items<FuncTy>,
     pub funcs: Items<Func>,
 }
 
-/// The functions of the 33 built-in features in the order of their numbers, and then `ALLOCATE`. Objects lie from the address
+/// The functions of the 33 built-in features in the order of their numbers, and then `ALLOCATE`. Objects are from the address
 /// `base` on, a multiple of 8 up to 2,147,483,648, in a room of so many KiB, from 64 to 1,048,576. Fails where memory runs out.
-pub fn code(alloc: Global, base: u32, room: u32, tracing: Tracing) -> Result<RuntimeCode, NoMemory>
+pub fn code(alloc: Global, base: u32, room: u32, tracing: Tracing) -> Result<RuntimeCode, Failure>
     ensures { IfOk result (λ code. length code.funcs ≡ 34) }
 {
     let types = types(alloc, &BUILTIN_TYPES)?;
@@ -35,7 +36,7 @@ pub fn code(alloc: Global, base: u32, room: u32, tracing: Tracing) -> Result<Run
 }
 
 /// The functions `FAULT`, `CHANGED`, `BOX_IMMUTABLE`, `BOX_WORD` and `UNBOX`, in this order. Fails where memory runs out.
-pub fn support(alloc: Global, tracing: Tracing) -> Result<RuntimeCode, NoMemory>
+pub fn support(alloc: Global, tracing: Tracing) -> Result<RuntimeCode, Failure>
     ensures { IfOk result (λ code. length code.funcs ≡ 5) }
 {
     Ok(RuntimeCode {
@@ -45,7 +46,7 @@ pub fn support(alloc: Global, tracing: Tracing) -> Result<RuntimeCode, NoMemory>
 }
 
 /// The functions `RELEASE` and `BOUND_CALL`, in this order. Fails where memory runs out.
-pub fn frames(alloc: Global, tracing: Tracing) -> Result<RuntimeCode, NoMemory>
+pub fn frames(alloc: Global, tracing: Tracing) -> Result<RuntimeCode, Failure>
     ensures { IfOk result (λ code. length code.funcs ≡ 2) }
 {
     let types = types(alloc, &FRAME_TYPES)?;
@@ -55,13 +56,13 @@ pub fn frames(alloc: Global, tracing: Tracing) -> Result<RuntimeCode, NoMemory>
     Ok(RuntimeCode { types, funcs })
 }
 
-/// The functions of a traced module that put frames of the trace, in the order of `TraceFunctions`, whose numbers they have, where the slots of
+/// The functions of a traced module that write trace records, in the order of `TraceFunctions`, whose numbers they have, where the slots of
 /// the pool have so many bytes. Fails where memory runs out.
 pub fn trace_code(
     alloc: Global,
     tellers: TraceFunctions,
     slot_bytes: u32,
-) -> Result<RuntimeCode, NoMemory>
+) -> Result<RuntimeCode, Failure>
     ensures { IfOk result (λ code. length code.funcs ≡ 4) }
 {
     Ok(RuntimeCode {

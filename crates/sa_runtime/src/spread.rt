@@ -1,5 +1,5 @@
-//! The arguments of a bound call: those that the call hands over stand one after the other in the area; what is called wants each
-//! at its own place, with those that the bound value keeps between them.
+//! The arguments of a bound call: those that the call passes are one after the other in the area; what is called wants each in its own
+//! position, with the captured ones of the bound value between them.
 
 use crate::bound_locals::{AT, ENTRY, GIVEN, HANDED, KEPT, OBJECT, PLACE};
 use crate::layout::{COUNT_AT, FIRST_ARGUMENT_AT, GIVEN_AT, OPEN_AT};
@@ -9,7 +9,7 @@ use wa_syntax::opcode::{
     I32_ADD, I32_LOAD, I32_LOAD8_U, I32_LT_U, I32_SHL, I32_SUB, I64_LOAD, I64_STORE,
 };
 
-/// Where a bound value has its first kept argument.
+/// The offset of the first captured argument in a bound value, in bytes.
 const FIRST_KEPT_ARGUMENT_AT: u32 = 16;
 
 /// Reads an argument in the area.
@@ -18,7 +18,7 @@ const LOAD_ARGUMENT: TemplateOp = Memory(I64_LOAD, FIRST_ARGUMENT_AT);
 /// Writes an argument in the area.
 const STORE_ARGUMENT: TemplateOp = Memory(I64_STORE, FIRST_ARGUMENT_AT);
 
-/// Whether the argument at the place is open.
+/// Whether the argument of this index is open.
 const IS_OPEN: Template = Line(&[
     Get(ENTRY),
     Get(PLACE),
@@ -26,7 +26,7 @@ const IS_OPEN: Template = Line(&[
     Memory(I32_LOAD8_U, OPEN_AT),
 ]);
 
-/// Begins behind the last argument.
+/// Begins after the last argument.
 const FROM_THE_END: Template = Sequence(&[
     Line(&[Get(ENTRY), Memory(I32_LOAD, COUNT_AT), Tee(PLACE)]),
     Line(&[I32(3), Do(I32_SHL), Tee(AT)]),
@@ -41,21 +41,21 @@ const ONE_BACK: Template = Sequence(&[
     Line(&[Get(AT), I32(8), Do(I32_SUB), Set(AT)]),
 ]);
 
-/// Puts the last kept argument that isn't in its place yet there.
+/// Puts the last captured argument that isn't in its position yet there.
 const PUT_KEPT: Template = Sequence(&[
     Line(&[Get(KEPT), I32(8), Do(I32_SUB), Set(KEPT)]),
     Line(&[Get(AT), Get(KEPT)]),
     Line(&[Memory(I64_LOAD, FIRST_KEPT_ARGUMENT_AT), STORE_ARGUMENT]),
 ]);
 
-/// Puts the last argument that was handed over and isn't in its place yet there.
+/// Puts the last argument that was passed and isn't in its position yet there.
 const PUT_HANDED: Template = Sequence(&[
     Line(&[Get(HANDED), I32(8), Do(I32_SUB), Set(HANDED)]),
     Line(&[Get(AT), Get(HANDED), LOAD_ARGUMENT, STORE_ARGUMENT]),
 ]);
 
-/// Puts each argument in its place, where the bound value keeps some. An argument's place is never before the one where it was
-/// handed over, so they go from the last to the first, and none is overwritten before it is read.
+/// Puts each argument in its position, where the bound value captures some. An argument's position is never before the one where it was
+/// passed, so they go from the last to the first, and none is overwritten before it is read.
 pub(crate) const SPREAD: Template = Sequence(&[
     Line(&[Get(ENTRY), Memory(I32_LOAD, GIVEN_AT), Tee(GIVEN)]),
     If(&[
@@ -71,7 +71,7 @@ pub(crate) const SPREAD: Template = Sequence(&[
     ]),
 ]);
 
-/// Puts the argument at the place back to where it was handed over.
+/// Puts the argument of this index back to where it was passed.
 const TAKE_BACK: Template = Sequence(&[
     Line(&[Get(HANDED), Get(AT), LOAD_ARGUMENT, STORE_ARGUMENT]),
     Line(&[Get(HANDED), I32(8), Do(I32_ADD), Set(HANDED)]),
@@ -84,8 +84,8 @@ const ONE_ON: Template = Sequence(&[
     Line(&[Get(ENTRY), Memory(I32_LOAD, COUNT_AT), Do(I32_LT_U)]),
 ]);
 
-/// Puts each open argument back to where it was handed over, where the bound value keeps some, from the first to the last: the
-/// caller finds there what is copied back.
+/// Puts each open argument back to where it was passed, where the bound value captures some, from the first to the last: the caller finds
+/// there what is copied out.
 pub(crate) const GATHER: Template = Sequence(&[
     Line(&[Get(GIVEN)]),
     If(&[

@@ -1,12 +1,13 @@
-//! Instructions that hold no others, as data, and how they are added to a list.
+//! Instructions that contain no others, as data, and how they are appended to a list: the operations of templates.
 
+use failure::Failure;
 use sqlite_items::Items;
-use wa_syntax::{Instr, NoMemory};
+use wa_syntax::Instr;
 
-/// An instruction that holds no others.
+/// An instruction that contains no others.
 #[derive(Clone, Copy)]
 pub enum TemplateOp {
-    /// None: what it would give is an operand already.
+    /// None: its value is an operand already.
     Here,
     /// An instruction that is its opcode alone.
     Do(u8),
@@ -36,8 +37,8 @@ pub enum TemplateOp {
     BrIf(u32),
 }
 
-/// Adds these instructions.
-pub fn emit_ops(to: &mut Items<Instr>, ops: &[TemplateOp]) -> Result<(), NoMemory> {
+/// Appends these instructions.
+pub fn emit_ops(to: &mut Items<Instr>, ops: &[TemplateOp]) -> Result<(), Failure> {
     for op in ops {
         if let Some(instruction) = instruction(*op) {
             to.push(instruction)?;

@@ -1,24 +1,25 @@
-//! How functions are written down as constants, and how they become functions of a module.
+//! Templates: how functions are written down as constants, and how they become functions of a module.
 
 ghost use Rattle.std.specs.Prelude.{◌≡◌, length, IfOk};
 
 use crate::signatures::FnSignature;
 use crate::template_ops::{TemplateOp, emit_ops};
 use crate::trace::{TraceEvent, Tracing, emit_event, emit_outcome, emit_put};
+use failure::Failure;
 use sqlite_items::Items;
 use std::alloc::Global;
-use wa_syntax::{Func, FuncTy, Instr, Locals, NoMemory, ValTy};
+use wa_syntax::{Func, FuncTy, Instr, Locals, ValTy};
 
-/// A part of the body of a function.
+/// A template: a part of the body of a function.
 #[derive(Clone, Copy)]
 pub enum Template {
-    /// Instructions one after the other.
+    /// A sequence of instructions.
     Line(&'static [TemplateOp]),
-    /// Parts one after the other.
+    /// A sequence of templates.
     Sequence(&'static [Template]),
-    /// Parts whose label is their end.
+    /// A block of templates, whose label is its end.
     Block(&'static [Template]),
-    /// Parts whose label is their beginning.
+    /// A loop of templates, whose label is its beginning.
     Loop(&'static [Template]),
     /// What is done where the operand isn't 0. Its label is its end.
     If(&'static [Template]),
@@ -26,26 +27,22 @@ pub enum Template {
     IfElse(&'static [Template], &'static [Template]),
     /// Writes the low byte of the operand to the output.
     Put,
-    /// In a traced module, tells this event of the instance whose frame is in this local.
+    /// In a traced module, reports this event of the instance whose frame is in this local.
     EmitEvent(u32, TraceEvent),
-    /// In a traced module, tells how the body of the instance was left whose frame is in the first local, by the status in the second.
+    /// In a traced module, reports how the body of the instance was left whose frame is in the first local, by the status in the second.
     EmitOutcome(u32, u32),
 }
 
-/// The locals behind the parameters of a function: so many of the type `i64`, and then so many of the type `i32`.
+/// The locals after the parameters of a function: so many of the type `i64`, and then so many of the type `i32`.
 #[derive(Clone, Copy)]
 pub struct LocalCounts(pub u32, pub u32);
 
-/// A function: the place of its type in a table of types, its locals, and its body.
+/// A function: the index of its type in a table of types, its locals, and its body.
 #[derive(Clone, Copy)]
 pub struct Function(pub u32, pub LocalCounts, pub &'static [Template]);
 
 /// The functions, in order.
-pub fn functions(
-    alloc: Global,
-    list: &[Function],
-    tracing: Tracing,
-) -> Result<Items<Func>, NoMemory>
+pub fn functions(alloc: Global, list: &[Function], tracing: Tracing) -> Result<Items<Func>, Failure>
     ensures { IfOk result (λ funcs. length funcs ≡ length list.now) }
 {
     let mut funcs = Items::new(alloc);
@@ -56,7 +53,7 @@ pub fn functions(
 }
 
 /// The function.
-pub(crate) fn func(alloc: Global, function: &Function, tracing: Tracing) -> Result<Func, NoMemory> {
+pub(crate) fn func(alloc: Global, function: &Function, tracing: Tracing) -> Result<Func, Failure> {
     Ok(Func {
         ty: function.0,
         locals: locals(alloc, function.1)?,
@@ -65,7 +62,7 @@ pub(crate) fn func(alloc: Global, function: &Function, tracing: Tracing) -> Resu
 }
 
 /// The locals.
-pub(crate) fn locals(alloc: Global, working: LocalCounts) -> Result<Locals, NoMemory> {
+pub(crate) fn locals(alloc: Global, working: LocalCounts) -> Result<Locals, Failure> {
     let mut locals = Locals::new(alloc);
     locals.push(working.0, ValTy::I64)?;
     locals.push(working.1, ValTy::I32)?;
@@ -73,7 +70,7 @@ pub(crate) fn locals(alloc: Global, working: LocalCounts) -> Result<Locals, NoMe
 }
 
 /// The types of functions, in order.
-pub(crate) fn types(alloc: Global, list: &[FnSignature]) -> Result<Items<FuncTy>, NoMemory> {
+pub(crate) fn types(alloc: Global, list: &[FnSignature]) -> Result<Items<FuncTy>, Failure> {
     let mut types = Items::new(alloc);
     for signature in list {
         types.push(FuncTy {
@@ -84,40 +81,40 @@ pub(crate) fn types(alloc: Global, list: &[FnSignature]) -> Result<Items<FuncTy>
     Ok(types)
 }
 
-/// The instructions of these parts.
+/// The instructions of these templates.
 #[cycle(parts)]
 pub fn instructions(
     alloc: Global,
     parts: &[Template],
     tracing: Tracing,
-) -> Result<Items<Instr>, NoMemory> {
+) -> Result<Items<Instr>, Failure> {
     let mut body = Items::new(alloc);
     emit_templates(alloc, parts, tracing, &mut body)?;
     Ok(body)
 }
 
-/// Adds the instructions of these parts.
+/// Appends the instructions of these templates.
 #[cycle(parts)]
 pub(crate) fn emit_templates(
     alloc: Global,
     parts: &[Template],
     tracing: Tracing,
     to: &mut Items<Instr>,
-) -> Result<(), NoMemory> {
+) -> Result<(), Failure> {
     for part in parts {
         emit_template(alloc, part, tracing, to)?;
     }
     Ok(())
 }
 
-/// Adds the instructions of this part.
+/// Appends the instructions of this template.
 #[cycle(parts)]
 fn emit_template(
     alloc: Global,
     part: &Template,
     tracing: Tracing,
     to: &mut Items<Instr>,
-) -> Result<(), NoMemory> {
+) -> Result<(), Failure> {
     match part {
         Template::Line(ops) => emit_ops(to, ops),
         Template::Sequence(parts) => emit_templates(alloc, parts, tracing, to),

@@ -19,7 +19,7 @@ use wa_syntax::opcode::{
 /// The header of a text without its length.
 const TEXT_HEADER: u64 = STR as u64 + 0x0100_0000 * TEXT as u64;
 
-/// Makes a text of so many bytes, all 0: whether there was no room for it. Its header and its bytes are filled up to whole words.
+/// Makes a text of so many bytes, all 0: whether there was no room for it. Its header and its bytes are padded to whole words.
 const ALLOCATE_TEXT: Template = Sequence(&[
     Line(&[Get(SIZE), TO_WORD, I64(32), Do(I64_SHL)]),
     Line(&[I64(TEXT_HEADER), Do(I64_OR)]),
@@ -31,14 +31,14 @@ const ALLOCATE_TEXT: Template = Sequence(&[
 /// Makes a short text of so many bytes, all 0, or ends the feature by `no room`.
 pub(crate) const MAKE_TEXT: Template = Sequence(&[ALLOCATE_TEXT, NO_ROOM_IF]);
 
-/// Goes round once for each 8 bytes that the text begins, and once for none. No text has 2^31 bytes.
+/// Runs one round for each 8 bytes that the text begins, and one for none. No text has 2^31 bytes.
 const SPEND_TURNS: Template = Loop(&[
     Line(&[Get(SIZE), I32(8), Do(I32_SUB), Tee(SIZE)]),
     Line(&[I32(0), Do(I32_GT_S), BrIf(0)]),
 ]);
 
-/// Makes a text of so many bytes, all 0, for a feature that spends a turn for each 8 bytes that the text begins, or ends the
-/// feature by `no room`. The turns are spent before the room is asked for, so they have their instructions there too.
+/// Makes a text of so many bytes, all 0, for a feature that spends a turn for each 8 bytes that the text begins, or ends the feature by `no
+/// room`. The turns are spent before the room is asked for, so they have their instructions also where it lacks.
 const MAKE_LONG_TEXT: Template = Sequence(&[
     ALLOCATE_TEXT,
     If(&[SPEND_TURNS, Line(&[I32(NO_ROOM), Do(RETURN)])]),
@@ -47,7 +47,7 @@ const MAKE_LONG_TEXT: Template = Sequence(&[
 /// `STR.size`.
 pub(crate) const LENGTH: &[Template] = &[Line(&[Get(SELF), TO_ADDRESS, LOAD_LENGTH]), GIVE_WORD];
 
-/// `STR.aget`. As a number without sign a negative place is greater than each length.
+/// `STR.aget`. As a number without sign a negative index is greater than each length.
 pub(crate) const AGET: &[Template] = &[
     Line(&[Get(FIRST), Get(SELF), TO_ADDRESS, LOAD_LENGTH]),
     Line(&[Do(I64_GE_U)]),
@@ -73,7 +73,7 @@ pub(crate) const CAT: &[Template] = &[
     GIVE_ADDRESS,
 ];
 
-/// `STR.substring`. The first test is whether the place or the count is negative, the second whether they pass the length.
+/// `STR.substring`. The first test is whether the index or the count is negative, the second whether they pass the length.
 pub(crate) const SUBSTRING: &[Template] = &[
     Line(&[Get(FIRST), Get(SECOND), Do(I64_OR)]),
     Line(&[I64(0), Do(I64_LT_S)]),
@@ -91,7 +91,7 @@ pub(crate) const SUBSTRING: &[Template] = &[
     GIVE_ADDRESS,
 ];
 
-/// The parameter of `STR.of` with how many bytes the address of the array stands before its first element.
+/// The parameter of `STR.of` with the offset of the first element from the array's address, in bytes.
 const ELEMENTS: u32 = 3;
 
 /// Copies the characters of 8 elements.

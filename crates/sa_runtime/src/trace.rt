@@ -1,40 +1,41 @@
-//! The trace of a module: what becomes of the instances of its iters, told among the bytes of its output.
+//! The trace of a module: the events of the instances of its iters, reported among the bytes of its output.
 //!
-//! What a traced module puts is a row of frames. A byte of the output is the frame `0`, byte. An event of an instance is `1`, the number
-//! of the event, the place of the instance's site among all sites of the program in 4 bytes, and the number of the instance in 8, the
-//! least byte first. Instances are numbered from 0 in the order of their starts. The frame of an instance in memory, of which all other
-//! pages speak, is another thing.
+//! What a traced module writes is a sequence of trace records. A byte of the output is the record `0`, byte. An event of an instance is
+//! `1`, the number of the event, the index of the instance's site among all sites of the program in 4 bytes, and the number of the instance
+//! in 8, both little-endian. Instances are numbered from 0 in the order of their starts. A frame is something else: the memory of an
+//! instance.
 //!
-//! A start, a resumption and an instance that is ended from outside are told where they stand in the code. How the body of an instance
-//! was left is told by its status.
+//! A start, a resumption and an instance that is ended from outside are reported at their positions in the code. How the body of an
+//! instance was left is reported by its status.
 
 ghost use Rattle.std.specs.Prelude.{◌≡◌, ◌+◌, IfOk};
 
 use crate::layout::{PUT, STARTING_SITE, TRACED_WORDS};
 use crate::template_ops::TemplateOp::{Call, Get, I32, SetGlobal};
 use crate::template_ops::emit_ops;
+use failure::{Failure, Invariant, known};
 use sqlite_items::Items;
-use wa_syntax::{Instr, NoMemory};
+use wa_syntax::Instr;
 
 /// Whether a module is traced.
 #[derive(Clone, Copy, Debug, PartialEq, Eq)]
 pub enum Tracing {
-    /// It puts the output alone.
+    /// It writes the output alone.
     Off,
-    /// It puts frames, by these functions.
+    /// It writes trace records, by these functions.
     On(TraceFunctions),
 }
 
-/// The functions of a traced module that put frames, by number.
+/// The functions of a traced module that write trace records, by number.
 #[derive(Clone, Copy, Debug, PartialEq, Eq)]
 pub struct TraceFunctions {
-    /// Puts the frame of a byte of the output, which is the low byte of its argument.
+    /// Writes the record of a byte of the output, which is the low byte of its argument.
     pub byte: u32,
-    /// Makes a frame in memory that of a new instance, and puts the frame of its start.
+    /// Makes a frame in memory that of a new instance, and writes the record of its start.
     pub start: u32,
-    /// Puts the frame of an event, of the frame of an instance in memory and the event's number.
+    /// Writes the record of an event, from the frame of an instance in memory and the event's number.
     pub event: u32,
-    /// Puts the frame of the event by which the body of an instance was left, of its frame in memory and the body's status.
+    /// Writes the record of the event by which the body of an instance was left, from its frame in memory and the body's status.
     pub outcome: u32,
 }
 
@@ -43,14 +44,14 @@ impl TraceFunctions {
     ///
     /// # Errors
     ///
-    /// `NoMemory` where 32 bits don't hold their numbers.
-    pub fn from_first(first: u32) -> Result<TraceFunctions, NoMemory>
+    /// `Broken` where 32 bits don't hold their numbers.
+    pub fn from_first(first: u32) -> Result<TraceFunctions, Failure>
         ensures byte { IfOk result (λ tellers. tellers.byte ≡ first) }
         ensures start { IfOk result (λ tellers. tellers.start ≡ first + 1) }
         ensures event { IfOk result (λ tellers. tellers.event ≡ first + 2) }
         ensures outcome { IfOk result (λ tellers. tellers.outcome ≡ first + 3) }
     {
-        let last = first.checked_add(3).ok_or(NoMemory)?;
+        let last = known(first.checked_add(3), Invariant::TableIndex)?;
         Ok(TraceFunctions {
             byte: first,
             start: last - 2,
@@ -60,12 +61,12 @@ impl TraceFunctions {
     }
 }
 
-/// An event that is told where it stands in the code.
+/// An event that is reported at its position in the code.
 #[derive(Clone, Copy, Debug, PartialEq, Eq)]
 pub enum TraceEvent {
-    /// The instance has got its frame.
+    /// The instance has its frame.
     Start,
-    /// The instance goes on where it was suspended.
+    /// The instance continues where it was suspended.
     Resume,
     /// The instance is ended with its loop, or by a raise.
     Abandon,
@@ -90,13 +91,13 @@ pub fn traced_words(tracing: Tracing) -> u32 {
     }
 }
 
-/// Adds what tells an event of the instance whose frame is in this local.
+/// Appends what reports an event of the instance whose frame is in this local.
 pub fn emit_event(
     to: &mut Items<Instr>,
     tracing: Tracing,
     frame: u32,
     event: TraceEvent,
-) -> Result<(), NoMemory> {
+) -> Result<(), Failure> {
     let Tracing::On(tellers) = tracing else {
         return Ok(());
     };
@@ -109,13 +110,13 @@ pub fn emit_event(
     }
 }
 
-/// Adds what tells how the body of the instance was left whose frame is in this local: by the status in the other local.
+/// Appends what reports how the body of the instance was left whose frame is in this local: by the status in the other local.
 pub fn emit_outcome(
     to: &mut Items<Instr>,
     tracing: Tracing,
     frame: u32,
     status: u32,
-) -> Result<(), NoMemory> {
+) -> Result<(), Failure> {
     match tracing {
         Tracing::Off => Ok(()),
         Tracing::On(tellers) => {
@@ -125,20 +126,20 @@ pub fn emit_outcome(
     }
 }
 
-/// Adds what names the site that starts an instance next, by its place among all sites of the program.
+/// Appends what names the site that starts an instance next, by its index among all sites of the program.
 pub fn emit_starting_site(
     to: &mut Items<Instr>,
     tracing: Tracing,
     site: u32,
-) -> Result<(), NoMemory> {
+) -> Result<(), Failure> {
     match tracing {
         Tracing::Off => Ok(()),
         Tracing::On(_) => emit_ops(to, &[I32(site), SetGlobal(STARTING_SITE)]),
     }
 }
 
-/// Adds the call that writes the low byte of the operand to the output.
-pub(crate) fn emit_put(to: &mut Items<Instr>, tracing: Tracing) -> Result<(), NoMemory> {
+/// Appends the call that writes the low byte of the operand to the output.
+pub(crate) fn emit_put(to: &mut Items<Instr>, tracing: Tracing) -> Result<(), Failure> {
     match tracing {
         Tracing::Off => emit_ops(to, &[Call(PUT)]),
         Tracing::On(tellers) => emit_ops(to, &[Call(tellers.byte)]),

@@ -1,7 +1,6 @@
--- Two steps that are the same up to a fault, which raises an object in the one and stops the program in the other. No protect
--- stands in what they run, so that from there on both only go out to the program's end, the one through each loop, instance
--- and routine. Each loop that it leaves ends the instances of the running feature's sites: so the steps also keep the number
--- of that feature.
+-- Two steps that are the same up to a fault, which raises an object in the one and stops the program in the other. There is no protect in
+-- what they run, so that from there on both only go out to the program's end, the one through each loop, instance and routine. Each loop
+-- that it leaves ends the instances of the running feature's sites: so the steps also keep the number of that feature.
 use Rattle.std.proofs.Common.{◌≡◌, ℕ, zero, suc, Bool, true, false, if◌then◌else◌, List, Option, Some, None, refl, sym, subst}
 use Rattle.sa_ast.specs.declared.fault_kind.FaultKind.{FaultKind}
 use Rattle.sa_ast.specs.declared.pos.Pos.{Pos}
@@ -11,7 +10,7 @@ use Rattle.sa_semantics.specs.State.{Continuation, Finished, Then, InLoop, SiteI
 use Rattle.sa_semantics.specs.Steps.{Eval, take_turn, turn}
 use Rattle.sa_semantics.specs.Protects.{IsUnguarded, AreUnguarded}
 
--- ---- what is still to be done, without protects
+-- ---- continuations without protects
 
 abbrev pub RestUnguarded : Continuation → Type 0
 RestUnguarded Finished = Unit {0}
@@ -34,7 +33,7 @@ FlowUnguarded _ = Unit {0}
 abbrev pub Fits : Option ℕ → Activation → Type 0
 Fits feature a = (a.feature ≡ feature) × SitesUnguarded a.sites
 
--- ---- how two steps end
+-- ---- the outcomes of two steps
 
 pub data Halts (feature : Option ℕ) : AbruptCause → State → AbruptCause → State → Type 0 where
   both_broke : (s : State) → Fits feature s.here → Halts feature Broke s Broke s
@@ -70,7 +69,7 @@ Passes from to Q k l = (c d : AbruptCause) (s t : State) → Halts from c s d t 
 pub meets : {from to : Option ℕ} {A : Type 0} {P : A → Type 0} {f g : Eval A} → AgreeIn from to A P f g → (s : State) → Fits from s.here → Meet to A P (f s) (g s)
 meets (agree m) s fits = m s fits
 
--- ---- ways of putting steps together
+-- ---- ways of composing steps
 
 meet_resolved : {A B : Type 0} {via to : Option ℕ} {P : A → Type 0} {Q : B → Type 0} {o q : Outcome A} (h i : A → Eval B) (k l : AbruptCause → Eval B) → Meet via A P o q → ((a : A) → P a → (s : State) → Fits via s.here → Meet to B Q (h a s) (i a s)) → Passes via to Q k l → Meet to B Q (resolve_outcome o h k) (resolve_outcome q i l)
 meet_resolved h i k l (give a s x fits) m n = m a x s fits
@@ -95,12 +94,12 @@ agree_then {Q = Q} x y = agree_resolve x (λ a p. y a) (passes_stop Q)
 pub agree_before : {from to : Option ℕ} {A B : Type 0} {P : A → Type 0} {Q : B → Type 0} {f g : Eval A} {h i : Eval B} → AgreeIn from to A P f g → AgreeIn to to B Q h i → AgreeIn from to B Q (f >> h) (g >> i)
 agree_before {Q = Q} x y = agree_resolve x (λ a p. y) (passes_stop Q)
 
--- a look at the state, and what follows it
+-- a read of the state, and what follows it
 pub agree_looking : {from to : Option ℕ} {A B : Type 0} {Q : B → Type 0} {see : State → A} (h i : A → Eval B) → ((s : State) → Fits from s.here → AgreeIn from to B Q (h (see s)) (i (see s))) → AgreeIn from to B Q (look see >>= h) (look see >>= i)
 unfolding resolve
 agree_looking h i y = agree (λ s fits. meets (y s fits) s fits)
 
--- a change of the state that goes to another feature, and what follows it
+-- a change of the state that enters or leaves a feature, and what follows it
 pub agree_going : {from via to : Option ℕ} {B : Type 0} {Q : B → Type 0} {h i : Eval B} (next : State → State) → ((s : State) → Fits from s.here → Fits via (next s).here) → AgreeIn via to B Q h i → AgreeIn from to B Q (change next >> h) (change next >> i)
 unfolding resolve
 agree_going next e y = agree (λ s fits. meets y (next s) (e s fits))

@@ -25,7 +25,7 @@ use Rattle.sa_semantics.proofs.Agree.{RestUnguarded, SitesUnguarded, FoundUnguar
 use Rattle.sa_semantics.proofs.AgreeSteps.{same_void, agree_charge, agree_object_at, agree_set_object, agree_fault, agree_write, agree_checked_depth, agree_checked_live}
 use Rattle.sa_semantics.proofs.AgreeBuiltin.{agree_builtin_call}
 
--- ---- widening
+-- ---- boxing
 
 pub agree_dynamic_type : {feature : Option ℕ} (v : Value) → Agree feature (dynamic_type v) (dynamic_type v)
 agree_dynamic_type v = agree_look _
@@ -68,14 +68,14 @@ same_wide_arguments p class _ = refl
 same_wide_once : (p : Program) (t : Target) → wide_once (before p) t ≡ wide_once p t
 same_wide_once p _ = refl
 
--- of which the places are the same for both
+-- where both box the same arguments
 agree_widened_same : {feature : Option ℕ} (p : Program) (at : Pos) (wide wide' : List Bool) → wide' ≡ wide → (given : List (Option Value)) → Agree feature (boxed_where p at wide given) (boxed_where (before p) at wide' given)
 agree_widened_same {feature} p at wide wide' e given = subst (λ x. Agree feature (boxed_where p at wide given) (boxed_where (before p) at x given)) (sym e) (agree_widened_where p at wide given)
 
 pub agree_widened_arguments : {feature : Option ℕ} (p : Program) (at : Pos) (class : Option ℕ) (t : Target) (given : List (Option Value)) → Agree feature (boxed_where p at (wide_arguments p class t) given) (boxed_where (before p) at (wide_arguments (before p) class t) given)
 agree_widened_arguments p at class t given = agree_widened_same p at _ _ (same_wide_arguments p class t) given
 
--- ---- what is called, handed over and brought back
+-- ---- what is called, passed and copied out
 
 module _ (p : Program) (at : Pos) where
   agree_dispatched_to : {feature : Option ℕ} (impls : List TypedImplementation) (v : Value) (ty : Option ℕ) → Agree feature (dispatch_to p at impls v ty) (dispatch_to (before p) at impls v ty)

@@ -1,4 +1,4 @@
--- Expressions and statements in which no protect stands agree.
+-- Expressions and statements without a protect agree.
 use Rattle.std.proofs.Common.{◌≡◌, ℕ, zero, suc, Bool, List, [], map, Option, Some, None, sym, ap, subst}
 use Rattle.std.specs.Prelude.{slice_get}
 use Rattle.sa_ast.specs.declared.fault_kind.FaultKind.TheVariants as fault_kind

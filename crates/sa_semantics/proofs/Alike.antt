@@ -1,5 +1,5 @@
--- Two steps that are put together alike, of which the one runs what turns begin to a level, and the other to a greater one. Laws
--- of all steps are shown once for each way of putting steps together.
+-- Two steps that are composed alike, of which the one runs what turns begin to a level, and the other to a greater one. Laws of all steps
+-- are shown once for each way of composing steps.
 use Rattle.std.proofs.Common.{◌≡◌, ℕ, zero, suc, ◌+◌, Bool, true, false, if◌then◌else◌, List, ◌++◌, Option, Some, None, refl}
 use Rattle.sa_semantics.specs.Sequence.{resolve, ◌>>=◌, ◌>>◌, stop, pure, look, change, or_stuck, Normal, OutOfTurns, stuck, with_index}
 use Rattle.sa_semantics.specs.State.{State, AbruptCause}
@@ -12,7 +12,7 @@ pub data AlikeIn : ℕ → (A : Type 0) → Eval A → Eval A → Type 1 where
   resolves : {level : ℕ} {A B : Type 0} {f g : Eval A} {h i : A → Eval B} {k l : AbruptCause → Eval B} → AlikeIn level A f g → ((a : A) → AlikeIn level B (h a) (i a)) → ((c : AbruptCause) → AlikeIn level B (k c) (l c)) → AlikeIn level B (resolve f h k) (resolve g i l)
   stops : {level : ℕ} {A : Type 0} (c : AbruptCause) → AlikeIn level A (stop c) (stop c)
   sticks : {level : ℕ} {A : Type 0} → AlikeIn level A stuck stuck
-  -- what neither looks at the turns nor spends any, and puts nothing
+  -- a step that neither reads the turns nor spends any, and puts nothing
   moves : {level : ℕ} {A : Type 0} (see : State → A) (next : State → State) → ((d : ℕ) (s : State) → see (more d s) ≡ see s) → ((d : ℕ) (s : State) → next (more d s) ≡ more d (next s)) → ((s : State) → (next s).turns ≡ s.turns) → ((s : State) → (next s).output ≡ s.output) → AlikeIn level A (λ s. Normal (see s) (next s)) (λ s. Normal (see s) (next s))
   puts : {level : ℕ} (bytes : State → List ℕ) (next : State → State) → ((d : ℕ) (s : State) → next (more d s) ≡ more d (next s)) → ((s : State) → (next s).turns ≡ s.turns) → ((s : State) → (next s).output ≡ s.output ++ bytes s) → AlikeIn level (Unit {0}) (change next) (change next)
   -- the turn of what is run to a level, and one that begins nothing
@@ -28,7 +28,7 @@ Alike level f g = AlikeIn level _ f g
 abbrev pub Steady : {A : Type 0} → ℕ → Eval A → Type 1
 Steady level f = AlikeIn level _ f f
 
--- ---- ways of putting steps together
+-- ---- ways of composing steps
 
 pub alike_resolve : {level : ℕ} {A B : Type 0} {f g : Eval A} {h i : A → Eval B} {k l : AbruptCause → Eval B} → Alike level f g → ((a : A) → Alike level (h a) (i a)) → ((c : AbruptCause) → Alike level (k c) (l c)) → Alike level (resolve f h k) (resolve g i l)
 alike_resolve a b c = resolves a b c

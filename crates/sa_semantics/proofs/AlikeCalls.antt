@@ -17,7 +17,7 @@ use Rattle.sa_semantics.proofs.Alike.{moves, Alike, Steady, alike_resolve, alike
 use Rattle.sa_semantics.proofs.SteadySteps.{steady_charge, steady_object_at, steady_set_object, steady_fault, steady_write, steady_enter, steady_leave, steady_checked_depth, steady_checked_live}
 use Rattle.sa_semantics.proofs.SteadyBuiltin.{steady_builtin_call}
 
--- ---- widening
+-- ---- boxing
 
 pub steady_dynamic_type : {level : ℕ} (v : Value) → Steady level (dynamic_type v)
 steady_dynamic_type v = steady_look _ (λ d s. refl)
@@ -49,7 +49,7 @@ steady_widened_where p at (wide ∷ more) (None ∷ rest) = alike_then (steady_w
 steady_widened_where p at (wide ∷ more) [] = steady_pure _
 steady_widened_where p at [] rest = steady_pure _
 
--- ---- what is called, handed over and brought back
+-- ---- what is called, passed and copied out
 
 module _ (p : Program) (at : Pos) where
   steady_dispatched_to : {level : ℕ} (impls : List TypedImplementation) (v : Value) (ty : Option ℕ) → Steady level (dispatch_to p at impls v ty)

@@ -59,7 +59,7 @@ bound_iter : end sample.bound_iter ≡ Ended (codes "1 2 3 ") 0
 unfolding outcome resolve or_stuck digits
 bound_iter = refl
 
--- ---- copies back
+-- ---- copies out
 
 copies_at_return : end sample.copies_at_return ≡ Ended (codes "14221") 0
 unfolding outcome resolve or_stuck digits
@@ -70,7 +70,7 @@ copies_at_yield : end sample.copies_at_yield ≡ Ended (codes "124816") 0
 unfolding outcome resolve or_stuck digits
 copies_at_yield = refl
 
--- widened for the variable: 16 bytes
+-- boxed for the variable: 16 bytes
 copies_widened : run_program sample.copies_boxed no_input 16 1000 ≡ Ended (codes "7") 0
 unfolding outcome resolve or_stuck digits
 copies_widened = refl
@@ -90,7 +90,7 @@ bound_past_room : run_program sample.bound_routine no_input 23 1000 ≡ Stopped 
 unfolding outcome resolve or_stuck digits
 bound_past_room = refl
 
--- a kept value is set anew at each resumption
+-- a stored argument is set anew at each resumption
 bound_anew : end sample.bound_anew ≡ Ended (codes "2 4 6 ") 0
 unfolding outcome resolve or_stuck digits
 bound_anew = refl
@@ -171,7 +171,7 @@ no_room_for_fault : run_program sample.reports_fault no_input 23 1000 ≡ Stoppe
 unfolding outcome resolve or_stuck digits
 no_room_for_fault = refl
 
--- a branch that is left by a raise leaves no exception behind
+-- a branch that is left by a raise leaves no exception to what comes after it
 raises_in_branches : end sample.raises_in_branches ≡ Ended (codes "ca") 0
 unfolding outcome resolve or_stuck digits
 raises_in_branches = refl
@@ -190,13 +190,13 @@ raises_through_events : (last_state (outcome sample.raises_through no_input 6553
 unfolding outcome resolve or_stuck digits
 raises_through_events = refl
 
--- ---- dispatch and widening
+-- ---- dispatch and boxing
 
 dispatches : end sample.dispatches ≡ Ended (codes "42") 0
 unfolding outcome resolve or_stuck digits
 dispatches = refl
 
--- an object without attributes, and the widened argument and the widened result
+-- an object without attributes, and the boxed argument and the boxed result
 dispatches_in_room : run_program sample.dispatches no_input 40 1000 ≡ Ended (codes "42") 0
 unfolding outcome resolve or_stuck digits
 dispatches_in_room = refl
@@ -227,7 +227,7 @@ reads_to_end : run_program sample.reads_line (record { bytes = codes "ab"; ends 
 unfolding outcome resolve or_stuck digits
 reads_to_end = refl
 
--- the input fails where its end is told once too often
+-- the input fails where its end is reported once too often
 input_fails : run_program sample.reads_line (record { bytes = codes "ab"; ends = Some 0 }) 0 1000 ≡ InFault (codes "qab")
 unfolding outcome resolve or_stuck digits
 input_fails = refl

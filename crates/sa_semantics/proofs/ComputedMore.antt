@@ -32,7 +32,7 @@ initialises_in_turns : run_program sample.initialises no_input 65536 4 ≡ Ended
 unfolding outcome resolve or_stuck digits
 initialises_in_turns = refl
 
--- ---- widening
+-- ---- boxing
 
 -- 8 bytes for the object, and 16 for each of the two
 two_stages : run_program sample.boxes_in_two_stages no_input 40 1000 ≡ Ended (codes "12") 0
@@ -43,7 +43,7 @@ two_stages_past_room : run_program sample.boxes_in_two_stages no_input 39 1000 �
 unfolding outcome resolve or_stuck digits
 two_stages_past_room = refl
 
--- The signature's $OB is widened first, so that the variable of the other one is void yet where the room is passed.
+-- The value for the signature's $OB is boxed first, so that the other variable is still void where the room is exceeded.
 two_stages_variables : (last_state (outcome sample.boxes_in_two_stages no_input 39 1000)).here.variables ≡ Ref 0 ∷ Void ∷ Void ∷ Int (pos 0) ∷ []
 unfolding outcome resolve or_stuck digits
 two_stages_variables = refl
@@ -57,7 +57,7 @@ once_first : run_program sample.boxes_once_first no_input 56 1000 ≡ Ended (cod
 unfolding outcome resolve or_stuck digits
 once_first = refl
 
--- The P passes the room, before the INT takes any.
+-- The P exceeds the room, before the INT takes any.
 once_first_room : (last_state (outcome sample.boxes_once_first no_input 39 1000)).room ≡ 31
 unfolding outcome resolve or_stuck digits
 once_first_room = refl
@@ -95,7 +95,7 @@ stands_nowhere = All-from_recursion (λ (f : Feature). AreUnguarded f.body) over
 stands_in_main : HasNoProtect (sample.catches_stop fault_kind.NoBranch) → ⊥
 stands_in_main none = (recursion_from_All (λ (f : Feature). AreUnguarded f.body) (sample.catches_stop fault_kind.NoBranch).features none).0.0
 
--- ---- programs of which no rule speaks
+-- ---- programs to which no rule applies
 
 writes_no_variable : end sample.writes_no_variable ≡ Stuck
 unfolding outcome resolve or_stuck digits

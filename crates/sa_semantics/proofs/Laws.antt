@@ -14,7 +14,7 @@ same_prefix a b e = ([], e ∙ sym (append-nil a))
 prefix_trans : (a b c : List ℕ) → IsPrefix a b → IsPrefix b c → IsPrefix a c
 prefix_trans a b c x y = (x.0 ++ y.0, y.1 ∙ ap (λ l. l ++ y.0) x.1 ∙ append_assoc a x.0 y.0)
 
--- what is put from s on comes to what is there
+-- the output from s on is that of the outcome
 abbrev Extends : {A : Type 0} → State → Outcome A → Type 0
 Extends s o = IsPrefix s.output (last_state o).output
 
@@ -42,7 +42,7 @@ extends (ends_first a) s = extends a s
 
 -- ---- with more turns
 
--- the second is the first with d turns more, or its output has that of the first where this ran out of turns
+-- the second is the first with d turns more, or its output extends that of the first where this ran out of turns
 abbrev pub Keeps : {A : Type 0} → ℕ → Outcome A → Outcome A → Type 0
 Keeps d (Normal a s) o = o ≡ Normal a (more d s)
 Keeps d (Abrupt c s) o = o ≡ Abrupt c (more d s)
@@ -76,7 +76,7 @@ keeps (ends_first a) d s = extends a (more d s)
 
 -- ---- out of turns
 
--- what a step from s comes to: fewer turns, and none where it ran out of them
+-- the outcome of a step from s has no more turns, and none where it ran out of them
 abbrev pub IsFair : {A : Type 0} → State → Outcome A → Type 0
 IsFair s (Normal a t) = t.turns ≤ s.turns
 IsFair s (Abrupt c t) = t.turns ≤ s.turns
@@ -99,7 +99,7 @@ fair_turned : {A : Type 0} (m n : ℕ) (f : Eval A) (s : State) → s.turns ≡ 
 fair_turned zero n f s e l x = e
 fair_turned (suc m) n f s e l x = fair_from s (record s { turns = m }) _ (omega (arith, e)) (x (record s { turns = m }) (omega (arith, l)))
 
--- at a level no lower than its turns, a step that is out of turns has none left
+-- at a level no less than its turns, a step that is out of turns has none left
 pub fair : {level : ℕ} {A : Type 0} {f g : Eval A} → AlikeIn level A f g → (s : State) → s.turns ≤ level → IsFair s (f s)
 unfolding resolve
 fair {level} (resolves {f = f} {h = h} {k = k} a b c) s l = fair_resolved level s (f s) h k l (fair a s l) (λ x t. fair (b x) t) (λ x t. fair (c x) t)

@@ -1,4 +1,4 @@
--- Where no protect stands, a run is the same where no fault can be caught.
+-- Without a protect, a run is the same where no fault can be caught.
 use Rattle.std.proofs.Common.{◌≡◌, ℕ, ◌+◌, List, [], ◌∷◌, map, Option, Some, None, refl, sym, ap, subst, ◌∙◌}
 use Rattle.sa_ast.specs.Faults.{fault_number}
 use Rattle.sa_typed.specs.declared.program.TypedProgram.{TypedProgram}

@@ -39,7 +39,7 @@ of_bits bits = if nat_le bits 2147483647 then pos bits else negsuc (4294967295 -
 abbrev pub on_bits : (ℕ → ℕ → ℕ) → ℤ → ℤ → ℤ
 on_bits f a b = of_bits (f (bits_of a) (bits_of b))
 
--- the number that an index is, below a length
+-- the index as a natural number, less than a length
 abbrev pub index_of : ℤ → ℕ
 index_of (pos n) = n
 index_of (negsuc n) = 0
@@ -123,7 +123,7 @@ module _ (p : Program) (class : Option ℕ) (at : Pos) (self : Value) (arguments
   byte_at bytes i =
       if is_index i (length bytes) then (at_index bytes (index_of i) >>= (λ byte. pure (Char byte))) else fault p fault_kind.Index at
 
-  -- so many bytes from a place on
+  -- so many bytes from an index on
   abbrev pub part : List ℕ → ℤ → ℤ → Eval Value
   part bytes i n =
       if int_le (pos 0) i && int_le (pos 0) n && int_le (i +ℤ n) (pos (length bytes))

@@ -1,4 +1,4 @@
--- What a call reaches, what it hands over and brings back, and the run of a routine.
+-- What a call resolves to, what it passes and copies out, and the run of a routine.
 use Rattle.std.specs.Prelude.{ℕ, ◌+◌, Bool, true, false, ◌&&◌, ◌==◌, if◌then◌else◌, List, [], ◌∷◌, map, length}
 use Rattle.std.specs.Prelude.{drop, slice_get, find, filter_map, Option, Some, None, option_map, option_and_then}
 use Rattle.std.specs.Option.{option_map_or}
@@ -21,9 +21,9 @@ use Rattle.sa_semantics.specs.State.{Object, Continuation, all_of, Empty, Activa
 use Rattle.sa_semantics.specs.Steps.{Eval, turn, charge, object_size, object_at, set_object, fault, write, enter, leave, checked_depth}
 use Rattle.sa_semantics.specs.Builtin.{builtin_call}
 
--- ---- dynamic types and widening
+-- ---- dynamic types and boxing
 
--- the number of the type that a value has, which a void has not
+-- the index of the type that a value has; a void has none
 abbrev pub type_of : List Object → Value → Option ℕ
 type_of objects Void = None
 type_of objects (Int z) = Some int_type
@@ -41,7 +41,7 @@ dynamic_type v = look (λ s. type_of s.objects v)
 abbrev pub box_value : Pos → ℕ → Value → Eval Value
 box_value at attributes v = charge at (object_size attributes 0) >> pure (Boxed v)
 
--- a value where an abstract type is wanted: one of an immutable class is widened
+-- a value where an abstract type is wanted: one of an immutable class is boxed
 abbrev pub boxed : Program → Pos → Value → Eval Value
 boxed p at (Int z) = box_value at 1 (Int z)
 boxed p at (Truth b) = box_value at 1 (Truth b)
@@ -49,18 +49,18 @@ boxed p at (Char byte) = box_value at 1 (Char byte)
 boxed p at (Imm ty fields) = box_value at (length (of_type p (λ t. t.attrs) [] ty)) (Imm ty fields)
 boxed p at v = pure v
 
--- the value is one of this immutable class, and isn't widened
+-- the value is one of this immutable class, and isn't boxed
 abbrev pub is_unboxed : ℕ → Value → Bool
 is_unboxed ty v = option_map_or (λ own. own == ty) (unboxed_type v) false
 
--- a value of this immutable class, widened
+-- a value of this immutable class, boxed
 abbrev pub boxed_from : Program → Pos → ℕ → Value → Eval Value
 boxed_from p at ty v = if is_unboxed ty v then boxed p at v else stuck
 
 abbrev pub boxed_if : Program → Pos → Bool → Value → Eval Value
 boxed_if p at wide v = if wide then boxed p at v else pure v
 
--- the arguments that are given, each where an abstract type is wanted
+-- the arguments that are given, each boxed where an abstract type is wanted
 abbrev pub boxed_where : Program → Pos → List Bool → List (Option Value) → Eval (List (Option Value))
 boxed_where p at (wide ∷ more) (Some v ∷ rest) = do
   w ← boxed_if p at wide v
@@ -73,30 +73,30 @@ boxed_where p at _ rest = pure rest
 
 -- ---- the arguments and the results of a call
 
--- What a call reaches: a target of a type, with its self, and the bound value through which it is reached.
+-- What a call resolves to: a target of a type, with its self, and the bound value through which it is called.
 pub record ResolvedCall : Type 0 where
   pub target : Target
   pub class : Option ℕ
   pub self : Value
   pub through : Option ℕ
 
--- What is handed over: by the callee's arguments the values that are given, and the variables that get a value back. What
--- comes back goes through a signature or a bound type first: where this has arguments of abstract types, and whether its
--- result is of one.
+-- What is passed: by the callee's arguments the values that are given, and the caller's variables that get a value back. What comes back is
+-- returned through a signature or a bound type first: `wide_back` says which arguments have abstract types there, and `wide` whether the
+-- result has one.
 pub record PassedArgs : Type 0 where
   pub given : List (Option Value)
   pub back : List (Option ℕ)
   pub wide_back : List Bool
   pub wide : Bool
 
--- the first list at the open places, in order, and the second at the others, where they are as many
+-- the first list at the open arguments, in order, and the second at the others, where they are as many
 abbrev pub interleave : {A : Type 0} → List Bool → List A → List A → Option (List A)
 interleave (true ∷ more) (a ∷ first) second = option_map (λ rest. a ∷ rest) (interleave more first second)
 interleave (false ∷ more) first (a ∷ second) = option_map (λ rest. a ∷ rest) (interleave more first second)
 interleave [] [] [] = Some []
 interleave _ first second = None
 
--- whether a type that is there is abstract
+-- whether there is a type and it is abstract
 abbrev pub is_wide : Program → Option ℕ → Bool
 is_wide p ty = option_map_or (is_abstract p) ty false
 
@@ -117,7 +117,7 @@ abbrev pub is_once : Mode → Bool
 is_once mode.Once = true
 is_once _ = false
 
--- where both lists have true
+-- at each index, whether both lists have true
 abbrev pub both_of : List Bool → List Bool → List Bool
 both_of (a ∷ more) (b ∷ rest) = (a && b) ∷ both_of more rest
 both_of _ _ = []
@@ -153,11 +153,11 @@ module _ (p : Program) (at : Pos) where
   callee (called.Dispatch k) v = dispatch k v
   callee called.Bound v = if is_nothing v then fault p fault_kind.Void at else (or_stuck (as_bound v) >>= bound_to)
 
-  -- the arguments as the callee takes them, the `once` ones first
+  -- the arguments as the callee takes them, the `once` ones boxed first
   abbrev pub boxed_for : ResolvedCall → List (Option Value) → Eval (List (Option Value))
   boxed_for c given = boxed_where p at (wide_once p c.target) given >>= boxed_where p at (wide_arguments p c.class c.target)
 
-  -- A dispatched call and the call of a bound value widen the arguments. The kept values of a bound value stand between.
+  -- A dispatched call and the call of a bound value box the arguments. The values that a bound value stores come between them.
   abbrev pub pass_args : TypedCallee → ResolvedCall → List (Option Value) → List (Option ℕ) → Eval PassedArgs
   pass_args (called.Static target class) c given back =
       pure (record { given = given; back = back; wide_back = map (λ var. false) back; wide = false })
@@ -176,9 +176,9 @@ module _ (p : Program) (at : Pos) where
     wide ← or_stuck (interleave b.is_open t.wide_args (map (λ v. false) (drop 1 o.fields)))
     pure (record { given = values; back = backs; wide_back = wide; wide = t.wide })
 
-  -- ---- what comes back
+  -- ---- what is copied out
 
-  -- the callee's variables, those that are copied back as a signature or a bound type has them
+  -- the callee's variables, with those that are copied out boxed as a signature or a bound type wants them
   abbrev pub boxed_back : List (Option ℕ) → List Bool → List Value → Eval (List Value)
   boxed_back (Some var ∷ back) (wide ∷ more) (v ∷ rest) = do
     w ← boxed_if p at wide v
@@ -208,8 +208,8 @@ module _ (p : Program) (at : Pos) where
   copy_back (Some var ∷ more) [] = stuck
   copy_back [] _ = pure tt
 
-  -- The result and the callee's variables, at the caller. First all go through the signature or the bound type, and then
-  -- the copies go to the caller's variables.
+  -- The result and the callee's variables, at the caller. First all are returned through the signature or the bound type, and then the
+  -- copies are assigned to the caller's variables.
   abbrev pub copy_results : PassedArgs → Value × List Value → Eval Value
   copy_results h r = do
     v ← boxed_if p at h.wide r.0
@@ -226,7 +226,7 @@ module _ (p : Program) (at : Pos) where
   attribute a Void = fault p fault_kind.Void at
   attribute a _ = stuck
 
-  -- An immutable value gives a changed copy.
+  -- Of an immutable value the result is a changed copy.
   abbrev pub set_attribute : ℕ → Value → Value → Eval Value
   set_attribute a v (Imm ty fields) = do
     changed ← with_index (field_list fields) a v
@@ -259,8 +259,7 @@ abbrev pub single : {A : Type 0} → List A → Option A
 single (a ∷ []) = Some a
 single _ = None
 
--- A callee's variables at its entry, where it is given what its arguments want by their modes. Of these `out` ones get no
--- value.
+-- A callee's variables at its entry, where it is given what its arguments want by their modes: `out` ones get no value.
 abbrev pub fill_arguments : List Mode → List Value → List (Option Value) → Option (List Value)
 fill_arguments (mode.Out ∷ modes) (v ∷ variables) (None ∷ given) = option_map (λ rest. v ∷ rest) (fill_arguments modes variables given)
 fill_arguments (mode.Out ∷ modes) (v ∷ variables) (Some w ∷ given) = None

@@ -1,4 +1,4 @@
--- What expressions give.
+-- Expressions: the value that each gives, case by case.
 use Rattle.std.specs.Prelude.{ℕ, ◌+◌, Bool, true, false, not, if◌then◌else◌, List, [], ◌∷◌, map, length, Option, Some, None, is_none}
 use Rattle.sa_ast.specs.declared.pos.Pos.{Pos}
 use Rattle.sa_ast.specs.declared.ty.Mode.{Mode}
@@ -31,7 +31,7 @@ variables_of no_args = []
 variables_of (arg (Variable mode var) more) = Some var ∷ variables_of more
 variables_of (arg _ more) = None ∷ variables_of more
 
--- by the arguments, the first value that there is
+-- by the arguments, the first value, or else the second
 abbrev pub either : List (Option Value) → List (Option Value) → List (Option Value)
 either (None ∷ first) (v ∷ second) = v ∷ either first second
 either (Some v ∷ first) (_ ∷ second) = Some v ∷ either first second
@@ -78,7 +78,7 @@ module _ (p : Program) (at : Pos) where
     })
     pure (Bound number)
 
-  -- The values that a bind keeps, which that of a signature widens. The call of a bound value isn't bound.
+  -- The values that a bind stores, which a bind of a signature boxes. No bind is of the call of a bound value.
   abbrev pub bound_values : TypedCallee → ResolvedCall → List (Option Value) → Eval (List (Option Value))
   bound_values (called.Static target class) c given = pure given
   bound_values (called.Dispatch k) c given = boxed_where p at (wide_arguments p c.class c.target) given
@@ -191,7 +191,7 @@ module _ (p : Program) (go : Continuation → Eval Completion) where
   abbrev pub evaluate_truth : Expr → Eval Bool
   evaluate_truth e = evaluate e >>= truth_of
 
-  -- whether one of the tests is true, where those behind it aren't evaluated
+  -- whether one of the tests is true; those after it aren't evaluated
   abbrev pub evaluate_tests : Exprs → Eval Bool
   evaluate_tests no_exprs = pure false
   evaluate_tests (expr e more) = evaluate_truth e >>= (λ b. if b then pure true else evaluate_tests more)

@@ -33,7 +33,7 @@ insert_site site i inside Empty = Entry site i inside Empty
 insert_site site i inside (Entry k j within others) =
     if nat_lt k site then Entry k j within (insert_site site i inside others) else Entry site i inside (Entry k j within others)
 
--- the ends of instances at sites of a feature, by site: of each those inside it first, and then itself
+-- the end events of instances at sites of a feature, by site: for each instance those inside it first, and then its own
 abbrev pub abandon_events : ℕ → SiteInstances → List Event
 abandon_events feature Empty = []
 abandon_events feature (Entry k i inside others) = abandon_events i.feature inside ++ Abandon feature k i.number ∷ abandon_events feature others
@@ -87,7 +87,7 @@ set_anew (_ ∷ modes) (u ∷ voids) (v ∷ variables) (Some w ∷ given) = opti
 set_anew [] voids variables [] = Some variables
 set_anew _ _ _ _ = None
 
--- ---- where an instance stands: the site of a feature, in the caller's activation
+-- ---- a call site of an iter: the site of a feature, in the caller's activation
 
 pub record CallSite : Type 0 where
   pub caller : Activation
@@ -95,7 +95,7 @@ pub record CallSite : Type 0 where
   pub site : ℕ
   pub at : Pos
 
--- the instance is gone, and the caller goes on
+-- the instance is removed, and the caller goes on
 abbrev pub instance_ends : CallSite → Instance → (ℕ → ℕ → ℕ → Event) → Eval (Unit {0})
 instance_ends here i event = change (λ s. record s {
   here = record (here.caller) { sites = remove_site here.site here.caller.sites };
@@ -104,7 +104,7 @@ instance_ends here i event = change (λ s. record s {
   trail = s.trail ++ Leave i.feature ∷ [];
 })
 
--- the instance stands at its site again, with what is left of it
+-- the instance is at its site again, with its continuation
 abbrev pub instance_waits : CallSite → Instance → Continuation → Eval (Unit {0})
 instance_waits here i left = change (λ s. record s {
   here =
@@ -131,7 +131,7 @@ module _ (p : Program) (here : CallSite) (i : Instance) where
   raised_through Broke = stuck
   raised_through cause = stop cause
 
--- ---- starts and resumptions, whose turn is spent
+-- ---- starts and resumptions, each of which spends a turn
 
 module _ (p : Program) (go : Continuation → Eval Completion) (here : CallSite) where
   abbrev pub run_instance : PassedArgs → Instance → SiteInstances → Eval Value

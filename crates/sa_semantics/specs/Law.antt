@@ -31,7 +31,7 @@ abbrev pub IsSpending : TypedProgram → Type 0
 IsSpending core =
     (input : Input) (room n : ℕ) → IsSpent (run core input room n) → (last_state (outcome (program_of core) input room n)).turns ≡ 0
 
--- Where no protect stands it makes no difference whether faults can be caught: on each input, with each room and each number of
+-- Where there is no protect it makes no difference whether faults can be caught: on each input, with each room and each number of
 -- turns, the run in which a fault raises an object ends as the run does in which the fault stops the program at once. It gives
 -- the same output, and stops with the same kind and position.
 abbrev pub IsSameBefore : TypedProgram → Type 0

@@ -1,5 +1,4 @@
--- More small typed programs: initialisers, widening in its order, faults that nothing catches, and programs of which no rule
--- speaks.
+-- More small typed programs: initialisers, boxing in its order, faults that nothing catches, and programs to which no rule applies.
 use Rattle.std.specs.Prelude.{ℕ, true, false, [], ◌∷◌, Some, codes}
 use Rattle.sa_ast.specs.declared.fault_kind.FaultKind.{FaultKind}
 use Rattle.sa_ast.specs.declared.ty.Mode.TheVariants.{In, Out, Once}
@@ -30,7 +29,7 @@ initialises = record (program (immutable_row (int_type ∷ []) (ob_type ∷ []) 
           ∷ record { ty = ob_type; class = own_type; start = Some (tree.Box own_type SelfRef here) } ∷ [];
     }
 
--- ---- widening
+-- ---- boxing
 
 -- typecase v when INT then #OUT + v; end
 abbrev pub put_if_int : ℕ → ℕ → Stmt
@@ -76,24 +75,24 @@ catches_stop kind = program [] (
 
 -- ---- programs that the checker doesn't give
 
--- a value goes to a variable that the feature hasn't
+-- a value is assigned to a variable that the feature doesn't have
 abbrev pub writes_no_variable : Program
 writes_no_variable = program [] (routine [] [] [] (Assign 0 (int 1) ∷ []) ∷ [])
 
--- an argument lacks
+-- an argument is missing
 abbrev pub lacks_argument : Program
 lacks_argument = program [] (
     routine [] [] [] (ExprStmt (call 1 []) ∷ [])
     ∷ routine (In ∷ []) (int_type ∷ []) [] [] ∷ [])
 
--- there is an argument more than the built-in feature takes
+-- there is one argument more than the built-in feature takes
 abbrev pub has_argument_more : Program
 has_argument_more = program [] (
     routine [] (int_type ∷ []) [] (
     Assign 0 (Call (Static (target.Builtin IntPlus) int_type) (int 1)
     (arg_list (tree.Value In (int 2) ∷ tree.Value In (int 3) ∷ [])) here) ∷ []) ∷ [])
 
--- what is widened is of a reference class
+-- what is boxed is of a reference class
 abbrev pub boxes_reference : Program
 boxes_reference = program [] (routine [] (ob_type ∷ []) [] (Assign 0 (tree.Box int_type (VoidValue main_type) here) ∷ []) ∷ [])
 

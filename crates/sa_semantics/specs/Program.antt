@@ -1,4 +1,4 @@
--- A typed program as its meaning sees it, and which of these a tree of the checker is.
+-- A typed program as the semantics sees it, and which of these a typed AST of the checker is.
 use Rattle.std.specs.Prelude.{ℕ, zero, suc, ◌+◌, pos, Bool, true, false, ◌||◌, ◌==◌, nat_lt, if◌then◌else◌}
 use Rattle.std.specs.Prelude.{List, [], ◌∷◌, map, length, slice_get, count_by, find, Option, is_some, unwrap_or}
 use Rattle.std.specs.Option.{option_map_or}
@@ -7,7 +7,7 @@ use Rattle.sa_ast.specs.declared.class.ClassKind.TheVariants as kind
 use Rattle.sa_ast.specs.declared.pos.Pos.{Pos}
 use Rattle.sa_ast.specs.declared.ty.Mode.{Mode}
 use Rattle.sa_ast.specs.Types.{BareTy, Rout, Iter, BareArgs, no_args, arg, BareResult, no_result, gives, bare, all_bare_args, option_bare}
-use Rattle.sa_types.specs.Abstract.{is_abstract_bare}
+use Rattle.sa_subst.specs.Abstract.{is_abstract_bare}
 use Rattle.sa_typed.specs.declared.feature.TypedFeature.{TypedFeature}
 use Rattle.sa_typed.specs.declared.feature.Site.{Site}
 use Rattle.sa_typed.specs.declared.program.TypedProgram.{TypedProgram}
@@ -22,11 +22,11 @@ use Rattle.sa_semantics.specs.Value.{Value, Void, Int, Truth, Char, Imm, fields_
 -- A type. A bound type has the kind of a reference class and no attributes.
 pub record TypeRow : Type 0 where
   pub kind : ClassKind
-  -- the numbers of the attributes' types
+  -- the indices of the attributes' types
   pub attrs : List ℕ
-  -- the number of the elements' type, where the class reads or writes elements
+  -- the index of the elements' type, where the class reads or writes elements
   pub elem : Option ℕ
-  -- the other types that it is below
+  -- its other supertypes
   pub above : List ℕ
   -- of a bound type: which arguments are of abstract types, and whether the result is
   pub wide_args : List Bool
@@ -36,7 +36,7 @@ pub record Feature : Type 0 where
   pub iter : Bool
   -- the modes of the arguments, which are the first variables
   pub modes : List Mode
-  -- the numbers of the variables' types
+  -- the indices of the variables' types
   pub vars : List ℕ
   pub sites : List Site
   pub body : Stmts
@@ -51,7 +51,7 @@ pub record Signature : Type 0 where
 
 pub record SharedRow : Type 0 where
   pub ty : ℕ
-  -- the number of the class that has it
+  -- the index of the class that has it
   pub class : ℕ
   pub start : Option Expr
 
@@ -61,12 +61,12 @@ pub record Program : Type 0 where
   pub signatures : List Signature
   pub shareds : List SharedRow
   pub main : ℕ
-  -- the places of the line feeds in each text
+  -- the positions of the line feeds in each text
   pub newlines : List (List ℕ)
   -- whether faults can be caught, as the language has it
   pub faults_raise : Bool
 
--- ---- the program that a typed tree is
+-- ---- the program that a typed AST is
 
 abbrev pub is_wide_result : BareResult → Bool
 is_wide_result no_result = false
@@ -121,7 +121,7 @@ program_of core = record {
 abbrev pub before : Program → Program
 before p = record p { faults_raise = false }
 
--- ---- types by their numbers
+-- ---- types by their indices
 
 abbrev pub is_abstract_kind : ClassKind → Bool
 is_abstract_kind kind.Abstract = true
@@ -131,7 +131,7 @@ abbrev pub is_immutable_kind : ClassKind → Bool
 is_immutable_kind kind.Immutable = true
 is_immutable_kind _ = false
 
--- what a type shows, or else something other
+-- what a function gives of the type at an index, or else a default
 abbrev pub of_type : {A : Type 0} → Program → (TypeRow → A) → A → ℕ → A
 of_type p see other ty = option_map_or see (slice_get p.types ty) other
 
@@ -141,7 +141,7 @@ is_abstract p = of_type p (λ t. is_abstract_kind t.kind) false
 abbrev pub is_immutable : Program → ℕ → Bool
 is_immutable p = of_type p (λ t. is_immutable_kind t.kind) false
 
--- the type is the other one or above it
+-- the first type is the second one or a supertype of it
 abbrev pub is_supertype : Program → ℕ → ℕ → Bool
 is_supertype p ty other = ty == other || is_some (find (λ above. above == ty) (of_type p (λ t. t.above) [] other))
 

@@ -1,4 +1,4 @@
--- Statements and programs in which no protect stands.
+-- Statements and programs without a protect.
 use Rattle.std.specs.Prelude.{All}
 use Rattle.sa_typed.specs.Tree.{Stmt, If, Loop, TypeCase, Protect, Stmts, no_stmts, stmt, Tests}
 use Rattle.sa_typed.specs.Tree.{no_tests, branch, Arms, no_arms, arm, Else, no_else, otherwise}
@@ -28,6 +28,6 @@ abbrev mutual
   ElseUnguarded no_else = Unit {0}
   ElseUnguarded (otherwise body) = AreUnguarded body
 
--- in no feature's body; initialisers have no statements
+-- no feature's body has one; initialisers have no statements
 abbrev pub HasNoProtect : Program → Type 0
 HasNoProtect p = All (λ f. AreUnguarded f.body) p.features

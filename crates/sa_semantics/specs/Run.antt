@@ -37,7 +37,7 @@ module _ (p : Program) (go : Continuation → Eval Completion) where
   initialise k class None = pure tt
   initialise k class (Some e) = turn (set_self (void_of p class) >> evaluate p go e >>= set_shared k)
 
-  -- those of the shareds from a number on
+  -- the initialisers of the shareds from an index on
   abbrev pub initialise_from : ℕ → List SharedRow → Eval (Unit {0})
   initialise_from k [] = pure tt
   initialise_from k (s ∷ more) = initialise k s.class s.start >> initialise_from (k + 1) more
@@ -53,14 +53,14 @@ module _ (p : Program) (go : Continuation → Eval Completion) where
 unfoldable pub outcome : Program → Input → ℕ → ℕ → Outcome Value
 outcome p input room turns = whole_run p (run_to p turns) (initial p input room turns)
 
--- ---- what is seen of a run
+-- ---- what is observed of a run
 
 pub data End : Type 0 where
   Ended : (output : List ℕ) → (status : ℕ) → End
   -- a fault, or a raise that nothing catches, by the number of its kind
   Stopped : (output : List ℕ) → (kind : ℕ) → (at : Pos) → End
   InFault Spent : (output : List ℕ) → End
-  -- no rule says how to go on
+  -- no rule applies
   Stuck : End
 
 -- the low 8 bits of the number that `main` gives

@@ -1,4 +1,4 @@
--- Small typed programs, each the tree of the source above it.
+-- Small typed programs, each the typed AST of the source above it.
 use Rattle.std.specs.Prelude.{ℕ, pos, negsuc, Bool, true, false, List, [], ◌∷◌, ◌++◌, Some, None, codes}
 use Rattle.sa_ast.specs.declared.class.ClassKind.TheVariants as kind
 use Rattle.sa_ast.specs.declared.fault_kind.FaultKind.TheVariants as fault_kind
@@ -20,7 +20,7 @@ use Rattle.sa_prelude.specs.declared.feature.BuiltinFeature.TheVariants.{ArefAsi
 use Rattle.sa_semantics.specs.Value.{bool_type, int_type, str_type, fault_type}
 use Rattle.sa_semantics.specs.Program.{TypeRow, Feature, Program}
 
--- ---- words for trees, all of whose forms stand at one place
+-- ---- short names for nodes, all of which have the same position
 
 abbrev pub here : Pos
 here = record { file = 1; at = 0 }
@@ -34,7 +34,7 @@ int n = tree.Int (pos n)
 abbrev pub with_one : Expr → List Arg
 with_one e = tree.Value In e ∷ []
 
--- a built-in feature of a type, by its number
+-- a call of a built-in feature of a type, by the index of the type
 abbrev pub builtin : ℕ → BuiltinFeature → Expr → List Arg → Expr
 builtin ty feature on arguments = Call (Static (target.Builtin feature) ty) on (arg_list arguments) here
 
@@ -67,11 +67,11 @@ put e = ExprStmt (builtin out_type OutPut (VoidValue out_type) (with_one e))
 abbrev pub put_int : Expr → Stmt
 put_int e = ExprStmt (builtin out_type OutPutInt (VoidValue out_type) (with_one e))
 
--- a feature of MAIN
+-- a call of a feature of MAIN
 abbrev pub call : ℕ → List Arg → Expr
 call k arguments = Call (Static (target.Feature k) main_type) SelfRef (arg_list arguments) here
 
--- a shared, by its number
+-- a shared, by its index
 abbrev pub get_shared : ℕ → Expr
 get_shared k = Call (Static (target.GetShared k) main_type) SelfRef (arg_list []) here
 
@@ -88,7 +88,7 @@ loop body = Loop 0 (stmt_list body)
 abbrev pub when : Expr → List Stmt → Stmt
 when test body = If (test_list ((expr_list (test ∷ []), stmt_list body) ∷ [])) no_stmts
 
--- ---- words for programs
+-- ---- short names for programs
 
 abbrev pub class_row : List ℕ → List ℕ → TypeRow
 class_row attrs above = record { kind = kind.Reference; attrs = attrs; elem = None; above = above; wide_args = []; wide = false }
@@ -96,7 +96,7 @@ class_row attrs above = record { kind = kind.Reference; attrs = attrs; elem = No
 abbrev pub immutable_row : List ℕ → List ℕ → TypeRow
 immutable_row attrs above = record { kind = kind.Immutable; attrs = attrs; elem = None; above = above; wide_args = []; wide = false }
 
--- a bound type, of which these arguments are of abstract types
+-- a bound type, where these arguments have abstract types
 abbrev pub bound_row : List Bool → TypeRow
 bound_row wide = record (class_row [] (0 ∷ [])) { wide_args = wide }
 
@@ -224,7 +224,7 @@ bound_iter = program (bound_row (false ∷ []) ∷ []) (
     ∷ loop (put_int (up 0 (Var 0) (int 3)) ∷ put (text (codes " ")) ∷ []) ∷ [])
     ∷ upto ∷ [])
 
--- ---- copies back
+-- ---- copies out
 
 -- class MAIN is double(inout n:INT, out old:INT):INT is old := n; n := n + n; return 1; end;
 --   main is x ::= 21; y:INT; #OUT + double(inout x, out y) + x + y; end; end
@@ -434,7 +434,7 @@ raises_through = program [] (
     loop (Assign 0 (IterCall 0 SelfRef (arg_list []) here) ∷ Yield (Some (Var 0)) ∷ Raise (text (codes "x")) here ∷ []) ∷ [])
     ∷ [])
 
--- ---- dispatch and widening
+-- ---- dispatch and boxing
 
 -- abstract class $A is f(x:INT):$OB; end;
 -- class C < $A is create:SAME is return new; end; f(x:$OB):INT is typecase x when INT then return x + 1; end; end; end;

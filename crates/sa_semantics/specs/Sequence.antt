@@ -1,19 +1,19 @@
--- Steps on a state, and how they follow one another. The meanings of typed and of flat programs are both made of these.
+-- Steps on a state, and their composition. The semantics of typed programs and that of control-flow graphs are both made of these.
 use Rattle.std.specs.Prelude.{ℕ, nat_lt, if◌then◌else◌, List, length, set, slice_get, Option, Some, None}
 
--- How a step on a state S ends. It may stop for a cause C.
+-- The outcome of a step on a state S. It may stop for a cause C.
 pub data StepOutcome (S C A : Type 0) : Type 0 where
   Normal : A → S → StepOutcome S C A
   Abrupt : C → S → StepOutcome S C A
   -- a turn is due, and none is left
   OutOfTurns : S → StepOutcome S C A
-  -- no rule says how to go on
+  -- no rule applies
   GoesWrong : S → StepOutcome S C A
 
 abbrev pub Step : Type 0 → Type 0 → Type 0 → Type 0
 Step S C A = S → StepOutcome S C A
 
--- the state at the end
+-- the state at the end of an outcome
 abbrev pub last_state : {S C A : Type 0} → StepOutcome S C A → S
 last_state (Normal a s) = s
 last_state (Abrupt c s) = s
@@ -53,15 +53,15 @@ look see = λ s. Normal (see s) s
 abbrev pub change : {S C : Type 0} → (S → S) → Step S C (Unit {0})
 change f = λ s. Normal tt (f s)
 
--- what the option has
+-- the value of the option, which is stuck where it has none
 unfoldable pub or_stuck : {S C A : Type 0} → Option A → Step S C A
 or_stuck (Some a) = pure a
 or_stuck None = stuck
 
--- the element at a place, where the list has this place
+-- the element at an index, where the list has this index
 abbrev pub at_index : {S C A : Type 0} → List A → ℕ → Step S C A
 at_index list place = or_stuck (slice_get list place)
 
--- the list with another element at a place, where it has this place
+-- the list with another element at an index, where it has this index
 abbrev pub with_index : {S C A : Type 0} → List A → ℕ → A → Step S C (List A)
 with_index list place a = if nat_lt place (length list) then pure (set list place a) else stuck

@@ -1,11 +1,11 @@
--- What a running program has at each moment, and how a step of it ends.
+-- The state of a running program, and the outcomes of its steps.
 use Rattle.std.specs.Prelude.{ℕ, Bool, List, Option}
 use Rattle.sa_ast.specs.declared.fault_kind.FaultKind.{FaultKind}
 use Rattle.sa_ast.specs.declared.pos.Pos.{Pos}
 use Rattle.sa_typed.specs.declared.feature.Target.{Target}
 use Rattle.sa_typed.specs.Tree.{Stmt, Stmts, no_stmts, stmt}
 use Rattle.sa_semantics.specs.Value.{Value}
--- the bytes that are left, and how many times their end can still be told, where this is limited
+-- the bytes that are left, and how many times their end can still be reported, where this is limited
 pub use Rattle.wa_syntax.specs.Machine.{Input}
 use Rattle.sa_semantics.specs.Sequence.{StepOutcome}
 
@@ -26,7 +26,7 @@ pub record Object : Type 0 where
 
 -- ---- activations and instances
 
--- What is still to be done: nothing, a statement not begun, or a running loop with the rest of its round; and then more.
+-- A continuation: nothing, a statement not begun, or a running loop with the rest of its round; and then more.
 pub data Continuation : Type 0 where
   Finished : Continuation
   Then : Stmt → Continuation → Continuation
@@ -36,7 +36,7 @@ abbrev pub all_of : Stmts → Continuation
 all_of no_stmts = Finished
 all_of (stmt a more) = Then a (all_of more)
 
--- the one, and then the other
+-- the first continuation, and then the second
 abbrev pub append : Continuation → Continuation → Continuation
 append Finished after = after
 append (Then a rest) after = Then a (append rest after)
@@ -68,7 +68,7 @@ pub record Activation : Type 0 where
   -- how many calls, starts and resumptions are running
   pub depth : ℕ
 
--- ---- what is told of a run
+-- ---- what is observed of a run
 
 pub data Event : Type 0 where
   Start Resume Yields Quits Abandon : (feature site number : ℕ) → Event
@@ -95,7 +95,7 @@ pub record State : Type 0 where
   pub trail : List TraceMark
   pub here : Activation
 
--- ---- how a step ends
+-- ---- the outcome of a step
 
 -- why a run goes on elsewhere or stops
 pub data AbruptCause : Type 0 where
@@ -109,7 +109,7 @@ pub data AbruptCause : Type 0 where
 abbrev pub Outcome : Type 0 → Type 0
 Outcome A = StepOutcome State AbruptCause A
 
--- how a statement ends
+-- how a statement completes
 pub data Completion : Type 0 where
   Done Quitting : Completion
   Yielding : Value → Continuation → Completion

@@ -1,4 +1,4 @@
--- What statements do, and what is still to be done of them after a yield.
+-- Statements: what they do, case by case, and their continuation after a yield.
 use Rattle.std.specs.Prelude.{ℕ, zero, suc, Bool, false, if◌then◌else◌, Option, Some, None}
 use Rattle.std.specs.Option.{option_map_or}
 use Rattle.sa_ast.specs.declared.fault_kind.FaultKind.TheVariants as fault_kind
@@ -31,7 +31,7 @@ run_then first rest run = first >>= after_statement rest run
 abbrev pub set_exception : Option Value → Eval (Unit {0})
 set_exception exception = change (λ s. record s { here = record (s.here) { exception = exception } })
 
--- Nothing is suspended in a protect.
+-- Nothing is suspended inside a protect.
 abbrev pub not_suspended : Completion → Eval Completion
 not_suspended (Yielding v r) = stuck
 not_suspended flow = pure flow
@@ -150,14 +150,14 @@ module _ (p : Program) (go : Continuation → Eval Completion) where
     execute_else_with v no_else again = again
     execute_else_with v (otherwise body) again = with_exception v (execute_all body)
 
-  -- ---- what is left of statements
+  -- ---- continuations of statements
 
   abbrev pub resume_at : Continuation → Eval Completion
   resume_at Finished = pure Done
   resume_at (Then a rest) = run_then (execute a) rest (resume_at rest)
   resume_at (InLoop loop body inner rest) = run_then (run_loop loop body (resume_at inner)) rest (resume_at rest)
 
--- To a level, which falls at each turn. It is never below the turns that are left, so that these run out first.
+-- To a level, which falls at each turn. It is never less than the turns that are left, so that these run out first.
 abbrev pub run_to : Program → ℕ → Continuation → Eval Completion
 run_to p zero r = λ s. OutOfTurns s
 run_to p (suc level) r = resume_at p (run_to p level) r

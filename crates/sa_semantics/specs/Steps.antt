@@ -84,8 +84,8 @@ raise_new o kind at = do
   number ← add_object o
   stop (Raised (Ref number) kind at)
 
--- A fault that can be caught raises a new object that tells its kind and its line. Where the room lacks for it, and of the
--- other kinds, nothing catches it.
+-- A fault that can be caught raises a new object that has its kind and its line. Where there is no room for it, and for the other kinds,
+-- nothing catches the fault.
 abbrev pub fault : {A : Type 0} → Program → FaultKind → Pos → Eval A
 fault p kind at = do
   room ← look (λ s. s.room)

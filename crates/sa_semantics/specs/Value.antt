@@ -1,7 +1,7 @@
 -- The values of a running program.
 use Rattle.std.specs.Prelude.{ℕ, ℤ, pos, negsuc, Bool, true, false, not, ◌&&◌, ◌==◌, List, [], ◌∷◌, Option, Some, None}
 
--- ---- types whose numbers are the same in each program
+-- ---- types that have the same index in each program
 
 abbrev pub bool_type : ℕ
 bool_type = 3
@@ -29,13 +29,13 @@ mutual
     Char : (byte : ℕ) → Value
     -- a text, which may be empty; a void text is Void
     Text : (bytes : List ℕ) → Value
-    -- an object, by its number
+    -- an object, by its index
     Ref : (object : ℕ) → Value
     -- a value of an immutable class, by its type and its attributes
     Imm : (ty : ℕ) → (fields : Fields) → Value
-    -- a bound routine or iter, by the number of its object
+    -- a bound routine or iter, by the index of its object
     Bound : (object : ℕ) → Value
-    -- a value of an immutable class that stands at an abstract type
+    -- a boxed value: one of an immutable class, at an abstract type
     Boxed : Value → Value
 
   pub data Fields : Type 0 where
@@ -104,7 +104,7 @@ abbrev pub as_bound : Value → Option ℕ
 as_bound (Bound object) = Some object
 as_bound _ = None
 
--- the number of the type of a value of an immutable class that isn't widened
+-- the index of the type of an unboxed value of an immutable class
 abbrev pub unboxed_type : Value → Option ℕ
 unboxed_type (Int z) = Some int_type
 unboxed_type (Truth b) = Some bool_type
@@ -112,7 +112,7 @@ unboxed_type (Char byte) = Some char_type
 unboxed_type (Imm ty _) = Some ty
 unboxed_type _ = None
 
--- the value behind a wide one
+-- the value in a boxed one
 abbrev pub unboxed : Value → Value
 unboxed (Boxed v) = v
 unboxed v = v

@@ -1,4 +1,4 @@
-//! Laws of the definitions, each as what a function of an empty body ensures.
+//! Laws of the semantics, each as what a function with an empty body ensures.
 
 ghost use Rattle.sa_semantics.specs.Law.{IsGrowing, IsSameBefore, IsSpending, IsSteady};
 
@@ -10,7 +10,7 @@ pub fn is_steady(core: &TypedProgram)
     ensures { IsSteady core.now }
 {}
 
-/// What a run puts in some turns is the beginning of what it puts in more.
+/// The output of a run in some turns is a prefix of its output in more.
 #[tactic(auto, using(crate::proofs::WholeRuns::growing))]
 pub fn is_growing(core: &TypedProgram)
     ensures { IsGrowing core.now }
@@ -22,7 +22,7 @@ pub fn is_spending(core: &TypedProgram)
     ensures { IsSpending core.now }
 {}
 
-/// Where no protect stands, a run ends in the same way whether faults can be caught or not.
+/// Where there is no protect, a run ends in the same way whether faults can be caught or not.
 #[tactic(auto, using(crate::proofs::SameBefore::same_before))]
 pub fn is_same_before(core: &TypedProgram)
     ensures { IsSameBefore core.now }

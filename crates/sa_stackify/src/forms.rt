@@ -5,7 +5,7 @@ use wa_syntax::opcode::{
     I64_ADD, I64_AND, I64_EQ, I64_GT_S, I64_LT_S, I64_MUL, I64_OR, I64_SUB, I64_XOR,
 };
 
-/// How a built-in feature is written where it is called.
+/// How a built-in feature is emitted where it is called.
 #[derive(Clone, Copy)]
 pub enum BuiltinForm {
     /// A comparison of the receiver with the argument by this instruction.
@@ -30,7 +30,7 @@ pub enum BuiltinForm {
     Called,
 }
 
-/// How a built-in feature is written.
+/// How a built-in feature is emitted.
 pub fn form_of(feature: BuiltinFeature) -> BuiltinForm {
     match feature {
         BuiltinFeature::BoolIsEq => BuiltinForm::Compares(I64_EQ),
@@ -54,7 +54,7 @@ pub fn form_of(feature: BuiltinFeature) -> BuiltinForm {
     }
 }
 
-/// The instruction that does the same with its operands the other way round, if there is one.
+/// The instruction that does the same with its operands exchanged, if there is one.
 pub fn swapped_opcode(opcode: u8) -> Option<u8> {
     match opcode {
         I64_LT_S => Some(I64_GT_S),

@@ -1,7 +1,8 @@
-//! Which values that the steps of a body give stay operands of its function until they are read, and which go into variables.
+//! Which values that the operations of a CFG body give stay on the operand stack of its function until they are read, and which go into
+//! locals.
 //!
-//! Nothing is reordered: a value stays an operand where it is read once, in its own block, and where what lies above it on the
-//! stack by then is read with it. A constant and the body's own object are read where they stand.
+//! Nothing is reordered: a value stays an operand where it is read once, in its own block, and where what is on top of it on the stack by
+//! then is read with it. A constant and `self` are read where they are needed.
 #![tactic(auto)]
 
 mod forms;

@@ -1,27 +1,27 @@
-//! Which temporaries are read behind each block of a body before they are set again. They are few: those of one statement whose
-//! expressions have blocks of their own.
+//! Which temporaries are live out of each block of a body: read after it before they are set again. They are few: those of one statement
+//! whose expressions have blocks of their own.
 
 use crate::reading::{add_read, add_read_by_exit, add_set};
-use sa_ast::NoMemory;
+use failure::{Failure, Invariant, known};
 use sa_cfg::{BasicBlock, CfgBody, FIRST_TEMPORARY, Handler, Terminator};
 use sa_graph::{IndexGroups, entry, put, word};
 use sa_structure::raised_of;
 use std::alloc::Global;
 
-/// How many steps are looked at for each step and block of the body, before all temporaries are taken to be read behind all blocks.
+/// How many steps the search takes for each operation and block of the body, before all temporaries are taken to be live out of all blocks.
 const LOOKS: usize = 16;
 
-/// The temporaries that are read behind each block.
+/// The temporaries that are live out of each block.
 #[derive(Drop)]
 pub struct LiveOut {
     /// For each block its temporaries.
     of: Vec<Vec<u32>>,
-    /// Whether so many steps were looked at that nothing is known.
+    /// Whether the search took so many steps that nothing is known.
     unknown: bool,
 }
 
 impl LiveOut {
-    /// The temporaries that are read behind a block. The answer is `None` where that isn't known.
+    /// The temporaries that are live out of a block, or `None` where that isn't known.
     pub fn of(&self, block: u32) -> Option<&[u32]> {
         if self.unknown {
             return None;
@@ -33,7 +33,7 @@ impl LiveOut {
     }
 }
 
-/// A temporary that is read in a block, or behind it, before it is set there.
+/// A temporary that is live into a block: read in it, or after it, before it is set there.
 #[derive(Clone, Copy)]
 struct ExposedUse {
     block: u32,
@@ -50,23 +50,23 @@ struct Search<'a> {
     /// For each edge whether a raise leads along it.
     raises: Vec<bool>,
     open: Vec<ExposedUse>,
-    /// How many more steps may be looked at.
+    /// How many more steps the search may take.
     looks: usize,
     /// For each temporary one more than the block that has set it last while the blocks are gone through.
     set: Vec<u32>,
-    /// The variables of the step at hand.
+    /// The variables of the current operation.
     vars: Vec<u32>,
 }
 
-/// The temporaries that are read behind each block of a body.
+/// The temporaries that are live out of each block of a body.
 ///
 /// # Errors
 ///
-/// `NoMemory`, also where a number of the body names no block.
-pub fn live_out_of(alloc: Global, body: &CfgBody) -> Result<LiveOut, NoMemory> {
+/// A `Failure`: `Broken` where a number of the body names no block.
+pub fn live_out_of(alloc: Global, body: &CfgBody) -> Result<LiveOut, Failure> {
     let mut search = begun(alloc, body)?;
     for (place, block) in body.blocks.as_slice().iter().enumerate() {
-        search.add_block(word(place)?, block)?;
+        search.add_block(word(place, Invariant::CfgNumber)?, block)?;
     }
     let by_end = IndexGroups::new(alloc, body.blocks.len(), &search.ends)?;
     search.go_back(&by_end)?;
@@ -74,7 +74,7 @@ pub fn live_out_of(alloc: Global, body: &CfgBody) -> Result<LiveOut, NoMemory> {
     Ok(following)
 }
 
-fn begun(alloc: Global, body: &CfgBody) -> Result<Search<'_>, NoMemory> {
+fn begun(alloc: Global, body: &CfgBody) -> Result<Search<'_>, Failure> {
     let temporaries = body.temporaries.saturating_sub(FIRST_TEMPORARY) as usize;
     let mut of = Vec::new(alloc);
     let mut looks = 0usize;
@@ -97,7 +97,7 @@ fn begun(alloc: Global, body: &CfgBody) -> Result<Search<'_>, NoMemory> {
 
 impl Search<'_> {
     /// Adds the edges of a block, and the temporaries that it reads before it sets them.
-    fn add_block(&mut self, number: u32, block: &BasicBlock) -> Result<(), NoMemory> {
+    fn add_block(&mut self, number: u32, block: &BasicBlock) -> Result<(), Failure> {
         for step in block.steps.as_slice() {
             if let Some(raised) = raised_of(step) {
                 self.add_edge(number, raised.block, true)?;
@@ -115,7 +115,7 @@ impl Search<'_> {
         self.add_exit(number, &block.exit)
     }
 
-    fn add_exit(&mut self, number: u32, exit: &Terminator) -> Result<(), NoMemory> {
+    fn add_exit(&mut self, number: u32, exit: &Terminator) -> Result<(), Failure> {
         match exit {
             Terminator::Jump(to) => self.add_edge(number, *to, false),
             Terminator::Branch { test: _, yes, no } => {
@@ -131,21 +131,21 @@ impl Search<'_> {
         }
     }
 
-    fn add_raise(&mut self, number: u32, raised: Handler) -> Result<(), NoMemory> {
+    fn add_raise(&mut self, number: u32, raised: Handler) -> Result<(), Failure> {
         self.add_edge(number, raised.block, true)
     }
 
-    fn add_edge(&mut self, start: u32, end: u32, raise: bool) -> Result<(), NoMemory> {
+    fn add_edge(&mut self, start: u32, end: u32, raise: bool) -> Result<(), Failure> {
         self.starts.push(start)?;
         self.ends.push(end)?;
         self.raises.push(raise)?;
         Ok(())
     }
 
-    /// The variables at hand are read in a block.
-    fn read(&mut self, block: u32) -> Result<(), NoMemory> {
+    /// The current variables are read in a block.
+    fn read(&mut self, block: u32) -> Result<(), Failure> {
         for at in 0..self.vars.len() {
-            let var = entry(&self.vars, at)?;
+            let var = entry(&self.vars, at, Invariant::CfgNumber)?;
             if let Some(place) = temporary(var) {
                 if self.set.get(place).copied() != Some(block.saturating_add(1)) {
                     self.open.push(ExposedUse { block, var })?;
@@ -155,19 +155,24 @@ impl Search<'_> {
         Ok(())
     }
 
-    /// The variables at hand are set in a block.
-    fn set_in(&mut self, block: u32) -> Result<(), NoMemory> {
+    /// The current variables are set in a block.
+    fn set_in(&mut self, block: u32) -> Result<(), Failure> {
         for at in 0..self.vars.len() {
-            let var = entry(&self.vars, at)?;
+            let var = entry(&self.vars, at, Invariant::CfgNumber)?;
             if let Some(place) = temporary(var) {
-                put(&mut self.set, place, block.saturating_add(1))?;
+                put(
+                    &mut self.set,
+                    place,
+                    block.saturating_add(1),
+                    Invariant::CfgNumber,
+                )?;
             }
         }
         Ok(())
     }
 
     /// Goes back from what is read to what sets it.
-    fn go_back(&mut self, by_end: &IndexGroups) -> Result<(), NoMemory> {
+    fn go_back(&mut self, by_end: &IndexGroups) -> Result<(), Failure> {
         for _ in 0..self.looks.saturating_add(1) {
             let Some(open) = self.open.pop() else {
                 return Ok(());
@@ -181,19 +186,22 @@ impl Search<'_> {
         Ok(())
     }
 
-    fn go_back_from(&mut self, by_end: &IndexGroups, open: ExposedUse) -> Result<(), NoMemory> {
+    fn go_back_from(&mut self, by_end: &IndexGroups, open: ExposedUse) -> Result<(), Failure> {
         self.looks = self.looks.saturating_sub(1);
         for edge in by_end.of(open.block) {
-            let block = entry(&self.starts, *edge as usize)?;
-            let raise = entry(&self.raises, *edge as usize)?;
+            let block = entry(&self.starts, *edge as usize, Invariant::CfgNumber)?;
+            let raise = entry(&self.raises, *edge as usize, Invariant::CfgNumber)?;
             self.go_back_to(block, open.var, raise)?;
         }
         Ok(())
     }
 
-    /// A temporary is read behind a block.
-    fn go_back_to(&mut self, block: u32, var: u32, raise: bool) -> Result<(), NoMemory> {
-        let vars = self.following.of.get_mut(block as usize).ok_or(NoMemory)?;
+    /// A temporary is read after a block.
+    fn go_back_to(&mut self, block: u32, var: u32, raise: bool) -> Result<(), Failure> {
+        let vars = known(
+            self.following.of.get_mut(block as usize),
+            Invariant::CfgNumber,
+        )?;
         self.looks = self.looks.saturating_sub(vars.len().saturating_add(1));
         if vars.contains(&var) {
             return Ok(());
@@ -206,8 +214,8 @@ impl Search<'_> {
     }
 
     /// Whether a block sets a temporary.
-    fn sets(&mut self, block: u32, var: u32) -> Result<bool, NoMemory> {
-        let block = self.body.blocks.get(block as usize).ok_or(NoMemory)?;
+    fn sets(&mut self, block: u32, var: u32) -> Result<bool, Failure> {
+        let block = known(self.body.blocks.get(block as usize), Invariant::CfgNumber)?;
         for step in block.steps.as_slice().iter().rev() {
             self.looks = self.looks.saturating_sub(1);
             self.vars.clear();
@@ -220,7 +228,7 @@ impl Search<'_> {
     }
 }
 
-/// The place of a temporary among those of the body.
+/// The index of a temporary among those of the body.
 pub(crate) fn temporary(var: u32) -> Option<usize> {
     match var.checked_sub(FIRST_TEMPORARY) {
         Some(place) => Some(place as usize),

@@ -1,4 +1,4 @@
-//! Which variables a step reads as operands, in the order in which its instructions read them.
+//! Which variables an operation reads as operands, in the order in which its instructions read them.
 
 use crate::forms::{BuiltinForm, form_of, swapped_opcode};
 use sa_ast::Mode;
@@ -6,7 +6,7 @@ use sa_cfg::{CallOperand, CallOperation, CallTarget, CfgOperation, Terminator};
 use sa_prelude::BuiltinFeature;
 use sa_runtime::layout::PARAMETERS;
 
-/// The variable that a step reads as its operand at this place, if it reads any there.
+/// The variable that an operation reads as its operand of this index, if it reads any there.
 pub(crate) fn operand_at(step: &CfgOperation, place: usize) -> Option<u32> {
     match step {
         CfgOperation::Move { from, .. } => first(place, *from),
@@ -39,7 +39,7 @@ fn operand_of_call(plan: &CallOperation, place: usize) -> Option<u32> {
     }
 }
 
-/// The receiver, and then the arguments; the place alone of an element that is read or written.
+/// The receiver, and then the arguments; of an element that is read or written the index alone.
 fn operand_of_builtin(plan: &CallOperation, feature: BuiltinFeature, place: usize) -> Option<u32> {
     match form_of(feature) {
         BuiltinForm::Reads => first(place, argument(plan, 0)?),
@@ -67,7 +67,7 @@ fn operand_of_body_call(plan: &CallOperation, place: usize) -> Option<u32> {
     parameter(plan, place)
 }
 
-/// An argument that is handed over as a parameter.
+/// An argument that is passed as a parameter.
 fn parameter(plan: &CallOperation, place: usize) -> Option<u32> {
     if place >= PARAMETERS {
         return None;
@@ -85,7 +85,7 @@ fn passed_var(arg: &CallOperand) -> Option<u32> {
     arg.var
 }
 
-/// The second operand of a step that can have its operands the other way round.
+/// The second operand of an operation that can have its operands exchanged.
 pub(crate) fn other_operand(step: &CfgOperation) -> Option<u32> {
     let CfgOperation::Call { plan } = step else {
         return None;
@@ -105,7 +105,7 @@ pub(crate) fn other_operand(step: &CfgOperation) -> Option<u32> {
     }
 }
 
-/// The variable that an exit reads as its operand.
+/// The variable that a terminator reads as its operand.
 pub(crate) fn operand_of_exit(exit: &Terminator) -> Option<u32> {
     match exit {
         Terminator::Branch { test, .. } => Some(*test),
@@ -118,7 +118,7 @@ pub(crate) fn operand_of_exit(exit: &Terminator) -> Option<u32> {
     }
 }
 
-/// Whether a step reads its operand as a truth value of 32 bits.
+/// Whether an operation reads its operand as a truth value of 32 bits.
 pub(crate) fn reads_truth(step: &CfgOperation) -> bool {
     match step {
         CfgOperation::Call { plan } => is_not(plan),
@@ -130,7 +130,7 @@ pub(crate) fn is_not(plan: &CallOperation) -> bool {
     matches!(plan.callee, CallTarget::Builtin(BuiltinFeature::BoolNot))
 }
 
-/// Whether an exit reads its operand as a truth value of 32 bits.
+/// Whether a terminator reads its operand as a truth value of 32 bits.
 pub(crate) fn exit_reads_truth(exit: &Terminator) -> bool {
     matches!(exit, Terminator::Branch { .. })
 }

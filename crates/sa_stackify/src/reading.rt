@@ -1,10 +1,11 @@
-//! Which variables steps and exits read and set.
+//! Which variables operations and terminators read and set.
 
-use sa_ast::{Mode, NoMemory};
+use failure::Failure;
+use sa_ast::Mode;
 use sa_cfg::{CallOperand, CallOperation, CfgOperation, Terminator};
 
-/// Adds the variables that a step reads.
-pub(crate) fn add_read(vars: &mut Vec<u32>, step: &CfgOperation) -> Result<(), NoMemory> {
+/// Adds the variables that an operation reads.
+pub(crate) fn add_read(vars: &mut Vec<u32>, step: &CfgOperation) -> Result<(), Failure> {
     match step {
         CfgOperation::Const { .. } => Ok(()),
         CfgOperation::Move { from, .. } => add(vars, *from),
@@ -47,8 +48,8 @@ pub(crate) fn add_read(vars: &mut Vec<u32>, step: &CfgOperation) -> Result<(), N
     }
 }
 
-/// Adds the variables that a step sets.
-pub fn add_set(vars: &mut Vec<u32>, step: &CfgOperation) -> Result<(), NoMemory> {
+/// Adds the variables that an operation sets.
+pub fn add_set(vars: &mut Vec<u32>, step: &CfgOperation) -> Result<(), Failure> {
     match step {
         CfgOperation::Const { to, .. } => add(vars, *to),
         CfgOperation::Move { to, .. } => add(vars, *to),
@@ -89,8 +90,8 @@ pub fn add_set(vars: &mut Vec<u32>, step: &CfgOperation) -> Result<(), NoMemory>
     }
 }
 
-/// Adds the variables that an exit reads.
-pub(crate) fn add_read_by_exit(vars: &mut Vec<u32>, exit: &Terminator) -> Result<(), NoMemory> {
+/// Adds the variables that a terminator reads.
+pub(crate) fn add_read_by_exit(vars: &mut Vec<u32>, exit: &Terminator) -> Result<(), Failure> {
     match exit {
         Terminator::Jump(_) => Ok(()),
         Terminator::Branch { test, .. } => add(vars, *test),
@@ -106,42 +107,42 @@ pub(crate) fn add_read_by_exit(vars: &mut Vec<u32>, exit: &Terminator) -> Result
     }
 }
 
-fn add(vars: &mut Vec<u32>, var: u32) -> Result<(), NoMemory> {
+fn add(vars: &mut Vec<u32>, var: u32) -> Result<(), Failure> {
     vars.push(var)?;
     Ok(())
 }
 
-fn add_some(vars: &mut Vec<u32>, var: Option<u32>) -> Result<(), NoMemory> {
+fn add_some(vars: &mut Vec<u32>, var: Option<u32>) -> Result<(), Failure> {
     match var {
         Some(var) => add(vars, var),
         None => Ok(()),
     }
 }
 
-/// A call reads its receiver and its arguments. Those that it doesn't hand down count as read too.
-fn add_plan(vars: &mut Vec<u32>, plan: &CallOperation) -> Result<(), NoMemory> {
+/// A call reads its receiver and its arguments. Those that it doesn't pass count as read too.
+fn add_plan(vars: &mut Vec<u32>, plan: &CallOperation) -> Result<(), Failure> {
     add(vars, plan.recv)?;
     add_args(vars, plan.args.as_slice())
 }
 
-fn add_args(vars: &mut Vec<u32>, args: &[CallOperand]) -> Result<(), NoMemory> {
+fn add_args(vars: &mut Vec<u32>, args: &[CallOperand]) -> Result<(), Failure> {
     for arg in args {
         add_some(vars, arg.var)?;
     }
     Ok(())
 }
 
-fn add_answers(vars: &mut Vec<u32>, plan: &CallOperation) -> Result<(), NoMemory> {
+fn add_answers(vars: &mut Vec<u32>, plan: &CallOperation) -> Result<(), Failure> {
     add_some(vars, plan.value)?;
     add_copied_back(vars, plan.args.as_slice())
 }
 
-fn add_outcome(vars: &mut Vec<u32>, plan: &CallOperation, quit: u32) -> Result<(), NoMemory> {
+fn add_outcome(vars: &mut Vec<u32>, plan: &CallOperation, quit: u32) -> Result<(), Failure> {
     add(vars, quit)?;
     add_answers(vars, plan)
 }
 
-fn add_copied_back(vars: &mut Vec<u32>, args: &[CallOperand]) -> Result<(), NoMemory> {
+fn add_copied_back(vars: &mut Vec<u32>, args: &[CallOperand]) -> Result<(), Failure> {
     for arg in args {
         if is_copied_back(arg.mode) {
             add_some(vars, arg.var)?;

@@ -1,11 +1,11 @@
-//! What steps give that can be left as an operand.
+//! Which values of operations can be left as an operand.
 
 use crate::forms::{BuiltinForm, form_of};
 use crate::operands::is_not;
 use sa_cfg::{CallOperation, CallTarget, CfgBody, CfgOperation};
 use sa_structure::leaves;
 
-/// The variable that gets what a step gives, where its instructions can leave that as an operand.
+/// The variable that gets the value of an operation, where its instructions can leave that as an operand.
 pub fn result_of(step: &CfgOperation) -> Option<u32> {
     match step {
         CfgOperation::Const { to, .. } => Some(*to),
@@ -24,7 +24,7 @@ pub fn result_of(step: &CfgOperation) -> Option<u32> {
     }
 }
 
-/// Whether a step can leave what it gives as a truth value of 32 bits.
+/// Whether an operation can leave its value as a truth value of 32 bits.
 pub(crate) fn gives_truth(step: &CfgOperation) -> bool {
     match step {
         CfgOperation::IsVoid { .. } => true,
@@ -43,7 +43,7 @@ fn is_comparison(plan: &CallOperation) -> bool {
     }
 }
 
-/// Whether each reader of what a step gives can do the step itself.
+/// Whether each reader of an operation's value can do the operation itself.
 pub(crate) fn is_free(step: &CfgOperation) -> bool {
     matches!(
         step,
@@ -51,7 +51,7 @@ pub(crate) fn is_free(step: &CfgOperation) -> bool {
     )
 }
 
-/// Whether a step calculates a number that is in its variable before it is known to be in range, and a raise of it leaves the body,
+/// Whether an operation calculates a number that is in its variable before it is known to be in range, and a raise of it leaves the body,
 /// so that nothing sees which variable that was.
 pub(crate) fn calculates(body: &CfgBody, step: &CfgOperation) -> bool {
     let CfgOperation::Call { plan } = step else {
@@ -65,7 +65,7 @@ pub(crate) fn calculates(body: &CfgBody, step: &CfgOperation) -> bool {
     calculates && leaves(body, plan.fail.raised)
 }
 
-/// The variable that tells whether the instance of a step has ended.
+/// The variable that says whether the instance of an operation has ended.
 pub(crate) fn quit_of(step: &CfgOperation) -> Option<u32> {
     match step {
         CfgOperation::Start { quit, .. } => Some(*quit),

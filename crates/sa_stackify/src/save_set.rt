@@ -1,31 +1,32 @@
-//! What a suspension of a body has to store: the kept variables that may have changed since the start; and whether its own object is
-//! read behind a resumption.
+//! What a suspension of a body has to store: the saved variables that may have changed since the start; and whether `self` is read after a
+//! resumption.
 
 use crate::reading::add_set;
-use sa_ast::{Mode, NoMemory};
+use failure::{Failure, Invariant, known};
+use sa_ast::Mode;
 use sa_cfg::{BasicBlock, CfgBody, CfgOperation, Terminator};
 use sa_graph::{entry, put};
 use sa_structure::raised_of;
 use std::alloc::Global;
 
-/// What the body of an iter keeps.
+/// What the body of an iter saves.
 #[derive(Drop)]
 pub struct SaveSet {
-    /// For each kept variable, in their order, whether a suspension stores it. A start stores the others.
+    /// For each saved variable, in their order, whether a suspension stores it. A start stores the others.
     changed: Vec<bool>,
-    /// Whether the body's own object is read behind a resumption.
+    /// Whether `self` is read after a resumption.
     pub reads_self: bool,
     /// How many suspensions there are.
     pub suspensions: u32,
 }
 
 impl SaveSet {
-    /// What a body keeps.
+    /// What a body saves.
     ///
     /// # Errors
     ///
-    /// `NoMemory`, also where a number of the body names no block.
-    pub fn of(alloc: Global, body: &CfgBody) -> Result<SaveSet, NoMemory> {
+    /// A `Failure`: `Broken` where a number of the body names no block.
+    pub fn of(alloc: Global, body: &CfgBody) -> Result<SaveSet, Failure> {
         let mut keeping = SaveSet {
             changed: Vec::new(alloc),
             reads_self: reads_self(alloc, body)?,
@@ -39,7 +40,7 @@ impl SaveSet {
         Ok(keeping)
     }
 
-    /// Whether a suspension stores the kept variable at this place.
+    /// Whether a suspension stores the saved variable of this index.
     pub fn is_changed(&self, place: usize) -> bool {
         self.changed.get(place).copied().unwrap_or(true)
     }
@@ -56,7 +57,7 @@ fn suspensions_of(body: &CfgBody) -> u32 {
     count
 }
 
-/// Whether a variable is an argument that a start alone hands over.
+/// Whether a variable is an argument that a start alone passes.
 fn is_once(body: &CfgBody, var: u32) -> bool {
     match body.formals.get(var as usize) {
         Some(formal) => formal.mode == Mode::Once,
@@ -64,8 +65,8 @@ fn is_once(body: &CfgBody, var: u32) -> bool {
     }
 }
 
-/// For each argument whether a step sets it.
-fn set_in(alloc: Global, body: &CfgBody) -> Result<Vec<bool>, NoMemory> {
+/// For each argument whether an operation sets it.
+fn set_in(alloc: Global, body: &CfgBody) -> Result<Vec<bool>, Failure> {
     let mut set = vec![in alloc; false; body.formals.len()]?;
     let mut vars = Vec::new(alloc);
     for block in body.blocks.as_slice() {
@@ -74,8 +75,8 @@ fn set_in(alloc: Global, body: &CfgBody) -> Result<Vec<bool>, NoMemory> {
     Ok(set)
 }
 
-/// Marks the arguments that steps of a block set. `vars` has room for the variables of a step.
-fn mark_set(set: &mut Vec<bool>, vars: &mut Vec<u32>, block: &BasicBlock) -> Result<(), NoMemory> {
+/// Marks the arguments that operations of a block set. `vars` has room for the variables of an operation.
+fn mark_set(set: &mut Vec<bool>, vars: &mut Vec<u32>, block: &BasicBlock) -> Result<(), Failure> {
     for step in block.steps.as_slice() {
         vars.clear();
         add_set(vars, step)?;
@@ -85,23 +86,23 @@ fn mark_set(set: &mut Vec<bool>, vars: &mut Vec<u32>, block: &BasicBlock) -> Res
 }
 
 /// Marks those of the variables that are arguments.
-fn mark(set: &mut Vec<bool>, vars: &[u32]) -> Result<(), NoMemory> {
+fn mark(set: &mut Vec<bool>, vars: &[u32]) -> Result<(), Failure> {
     for var in vars {
         if (*var as usize) < set.len() {
-            put(set, *var as usize, true)?;
+            put(set, *var as usize, true, Invariant::CfgNumber)?;
         }
     }
     Ok(())
 }
 
-/// Whether the body's own object is read in a block that a resumption leads to.
-fn reads_self(alloc: Global, body: &CfgBody) -> Result<bool, NoMemory> {
+/// Whether `self` is read in a block that a resumption leads to.
+fn reads_self(alloc: Global, body: &CfgBody) -> Result<bool, Failure> {
     let mut reached = resumed_in(alloc, body)?;
     for _ in 0..body.blocks.len() {
         let Some(number) = reached.waiting.pop() else {
             break;
         };
-        let block = body.blocks.get(number as usize).ok_or(NoMemory)?;
+        let block = known(body.blocks.get(number as usize), Invariant::CfgNumber)?;
         if block.steps.as_slice().iter().any(is_me) {
             return Ok(true);
         }
@@ -110,8 +111,8 @@ fn reads_self(alloc: Global, body: &CfgBody) -> Result<bool, NoMemory> {
     Ok(false)
 }
 
-/// The blocks in which suspensions go on.
-fn resumed_in(alloc: Global, body: &CfgBody) -> Result<ResumedBlocks, NoMemory> {
+/// The blocks in which suspensions resume.
+fn resumed_in(alloc: Global, body: &CfgBody) -> Result<ResumedBlocks, Failure> {
     let mut reached = ResumedBlocks {
         seen: vec![in alloc; false; body.blocks.len()]?,
         waiting: Vec::new(alloc),
@@ -140,15 +141,15 @@ struct ResumedBlocks {
 }
 
 impl ResumedBlocks {
-    fn reach(&mut self, block: u32) -> Result<(), NoMemory> {
-        if !entry(&self.seen, block as usize)? {
-            put(&mut self.seen, block as usize, true)?;
+    fn reach(&mut self, block: u32) -> Result<(), Failure> {
+        if !entry(&self.seen, block as usize, Invariant::CfgNumber)? {
+            put(&mut self.seen, block as usize, true, Invariant::CfgNumber)?;
             self.waiting.push(block)?;
         }
         Ok(())
     }
 
-    fn go_on(&mut self, block: &BasicBlock) -> Result<(), NoMemory> {
+    fn go_on(&mut self, block: &BasicBlock) -> Result<(), Failure> {
         for step in block.steps.as_slice() {
             if let Some(raised) = raised_of(step) {
                 self.reach(raised.block)?;

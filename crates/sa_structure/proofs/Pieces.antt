@@ -1,4 +1,4 @@
--- What each piece stands for in the definitions, one equation for each variant; and where the pieces of a list begin.
+-- What each piece is in the definitions, one equation for each variant; and where the pieces of a list begin.
 use Rattle.std.proofs.Common.{◌≡◌, ℕ, List, [], ◌∷◌, length, Option, None, refl, sym, ap, ◌∙◌, arith}
 use Rattle.sa_structure.specs.declared.regions.Region.{Region}
 use Rattle.sa_structure.specs.declared.regions.Region.TheOpen.{Region-F}

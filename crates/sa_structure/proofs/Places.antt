@@ -3,7 +3,7 @@ use Rattle.std.proofs.Common.{◌≡◌, ◌<◌, ◌≤◌, ◌+◌, ◌⊎◌,
 use Rattle.std.proofs.lemmas.Option.{slice_get_within}
 use Rattle.sa_structure.specs.Numbering.{ArePlaces, IsPlace}
 
--- the numbers of the first n blocks are their places
+-- the numbers of the first n blocks are their indices
 pub record PlacesSoFar (entries : List ℕ) (numbers : List (Option ℕ)) (n : ℕ) : Type 0 where
   pub each : (block : ℕ) → block < n → IsPlace entries numbers block
 

@@ -1,4 +1,4 @@
--- The tests of a trial, from a place of a list on.
+-- The tests of the verifier, from an index of a list on.
 use Rattle.std.proofs.Common.{◌≡◌, ℕ, suc, ◌+◌, ◌<◌, ◌&&◌, ◌||◌, ◌==◌, Bool, true, false, List, [], ◌∷◌, length, get_or, drop, Option, refl, sym, ap, ◌∙◌, arith, add-one, drop-cons}
 use Rattle.std.proofs.Math.Seq.{drop-length}
 use Rattle.std.proofs.lemmas.Bool.Decides.{nat_tests}
@@ -17,7 +17,7 @@ each-drop p xs i x h e = rw (add-one, drop-cons xs i x, ← e)
 pub pieces_stand-drop : (b : CfgBody) (entries : List ℕ) (again : List (Option ℕ)) (seen : List ℕ) (following : Option ℕ) (xs : List Region) (i : ℕ) (x : Region) → i < length xs → x ≡ get_or xs i x → pieces_stand b entries again seen following (pieces (drop i xs)) ≡ (piece_stands b entries again seen (piece_after (pieces (drop (i + 1) xs)) following) (piece x) && pieces_stand b entries again seen following (pieces (drop (i + 1) xs)))
 pieces_stand-drop b entries again seen following xs i x h e = rw (add-one, drop-cons xs i x, ← e)
 
--- ---- the choice
+-- ---- the dispatch
 
 pub choice-empty : (xs : List Region) → length xs ≡ 0 → false ≡ begin_with_dispatch (pieces xs)
 choice-empty [] h = refl

@@ -1,11 +1,11 @@
--- Shapes as the definitions take them: a list of pieces is part of the same data, so that a definition goes down into a piece by its
--- cases.
+-- Structured regions as the definitions take them: a list of pieces is part of the same data, so that a definition goes down into a piece
+-- by its cases.
 use Rattle.std.specs.Prelude.{ℕ, List, [], ◌∷◌, map, Option, Some, None}
 use Rattle.sa_structure.specs.declared.regions.Region.{Region}
 use Rattle.sa_structure.specs.declared.regions.Region.TheOpen.{Region-F}
 use Rattle.sa_structure.specs.declared.regions.Region.TheFolds.{fold-Region}
 
--- a piece; and pieces one behind the other
+-- a piece; and a sequence of pieces
 infixr 6 ◌then◌
 mutual
   pub data Piece : Type 0 where
@@ -40,7 +40,7 @@ pieces list = pieces_of (map piece list)
 
 -- ---- where pieces begin
 
--- the block that they begin with; the choice begins with none
+-- the block that they begin with; the dispatch begins with none
 abbrev mutual
   pub first_of : Piece → Option ℕ
   first_of (Basic block) = Some block
@@ -53,7 +53,7 @@ abbrev mutual
   first nothing = None
   first (q then rest) = first_of q
 
--- the block that begins behind a piece: the first of the rest of its list, or else the one behind the list
+-- the block that begins after a piece: the first of the rest of its list, or else the one after the list
 abbrev pub piece_after : Pieces → Option ℕ → Option ℕ
 piece_after nothing following = following
 piece_after (q then rest) following = first_of q

@@ -1,4 +1,4 @@
--- What is promised of the shape of a body.
+-- What is promised of the structured regions of a body.
 use Rattle.std.specs.Prelude.{IsTrue}
 use Rattle.sa_cfg.specs.declared.body.CfgBody.{CfgBody}
 use Rattle.sa_structure.specs.declared.structured_body.StructuredBody.{StructuredBody}

@@ -1,5 +1,5 @@
--- That a shape stands for the blocks of a body: what each block goes on in begins behind it, or is jumped to from where its label can
--- be seen, or is reached by way of the choice.
+-- That structured regions stand for the blocks of a body: the block in which each block continues begins after it, or is jumped to from
+-- where its label is in scope, or is reached by way of the dispatch.
 use Rattle.std.specs.Prelude.{ℕ, Bool, true, false, not, ◌&&◌, ◌||◌, ◌==◌, List, [], ◌∷◌, ◌++◌, length, slice_get}
 use Rattle.std.specs.Prelude.{Option, Some, None, is_some}
 use Rattle.std.specs.Option.{option_map_or, option_flatten}
@@ -24,8 +24,8 @@ each p (a ∷ rest) = p a && each p rest
 abbrev pub begins : Option ℕ → ℕ → Bool
 begins there block = option_map_or (λ other. other == block) there false
 
--- ---- ways to a block; `again` has for each block its number in the choice, if it is reached again by that, and `seen` the blocks
--- whose labels can be seen
+-- ---- transfers to a block; `again` has for each block its number in the dispatch, if it is reached again by that, and `seen` the blocks
+-- whose labels are in scope
 
 abbrev pub is_numbered : List (Option ℕ) → ℕ → Bool
 is_numbered numbers block = is_some (option_flatten (slice_get numbers block))
@@ -33,15 +33,15 @@ is_numbered numbers block = is_some (option_flatten (slice_get numbers block))
 abbrev pub is_jumped_to : List (Option ℕ) → List ℕ → ℕ → Bool
 is_jumped_to again seen block = is_numbered again block || is_in seen block
 
--- it begins behind, or is jumped to
+-- it begins after the piece, or is jumped to
 abbrev pub is_reached : List (Option ℕ) → List ℕ → Option ℕ → ℕ → Bool
 is_reached again seen following block = begins following block || is_jumped_to again seen block
 
--- the choice comes to it
+-- the dispatch comes to it
 abbrev pub is_come_to : List ℕ → Option ℕ → ℕ → Bool
 is_come_to seen following block = begins following block || is_in seen block
 
--- ---- raises of steps
+-- ---- raises of operations
 
 abbrev pub is_raise_of : Handler → Terminator → Bool
 is_raise_of raised (Raise value place kind) = value == raised.value && place == raised.place && kind == raised.kind
@@ -57,9 +57,9 @@ raise_occurs b again seen raised = leaves b raised || is_jumped_to again seen ra
 abbrev pub step_occurs : CfgBody → List (Option ℕ) → List ℕ → CfgOperation → Bool
 step_occurs b again seen step = option_map_or (raise_occurs b again seen) (raised_by step) true
 
--- ---- exits
+-- ---- terminators
 
--- a body goes on behind a suspension in one of its entries
+-- a body resumes after a suspension in one of its entries
 abbrev pub suspension_occurs : List ℕ → Option ℕ → Bool
 suspension_occurs entries resume = option_map_or (is_in entries) resume true
 
@@ -86,12 +86,12 @@ abbrev pub with_label : Option ℕ → List ℕ → (List ℕ → Bool) → Bool
 with_label None seen inside = false
 with_label (Some block) seen inside = not (is_in seen block) && inside (seen ++ block ∷ [])
 
--- inside a loop, whose label is that of the block that it begins with; one that begins with the choice has no such label
+-- inside a loop, whose label is that of the block that it begins with; one that begins with the dispatch has no such label
 abbrev pub with_head : Option ℕ → List ℕ → (List ℕ → Bool) → Bool
 with_head None seen inside = inside seen
 with_head (Some block) seen inside = with_label (Some block) seen inside
 
--- A body, the blocks in which it begins and goes on, and those that are reached again by way of the choice.
+-- A body, the blocks in which it begins and resumes, and those that are reached again by way of the dispatch.
 module _ (b : CfgBody) (entries : List ℕ) (again : List (Option ℕ)) where
   abbrev mutual
     pub piece_stands : List ℕ → Option ℕ → Piece → Bool
@@ -106,7 +106,7 @@ module _ (b : CfgBody) (entries : List ℕ) (again : List (Option ℕ)) where
     pieces_stand seen following nothing = true
     pieces_stand seen following (q then rest) = piece_stands seen (piece_after rest following) q && pieces_stand seen following rest
 
--- ---- whole shapes
+-- ---- all the regions of a body
 
 abbrev pub is_nothing : Pieces → Bool
 is_nothing nothing = true
@@ -120,7 +120,7 @@ abbrev pub is_loop : Pieces → Bool
 is_loop nothing = false
 is_loop (q then rest) = is_whole_loop q rest
 
--- what begins with the choice
+-- what begins with the dispatch
 abbrev mutual
   pub begins_with_dispatch : Piece → Bool
   begins_with_dispatch (Basic block) = false
@@ -133,8 +133,8 @@ abbrev mutual
   begin_with_dispatch nothing = false
   begin_with_dispatch (q then rest) = begins_with_dispatch q
 
--- with the first block where that is the one entry, and else with the choice, which stands in a loop around all where blocks are
--- reached again by it
+-- with the first block where that is the one entry, and else with the dispatch, which is in a loop around all where blocks are reached
+-- again by it
 abbrev pub begins_by : List ℕ → List (Option ℕ) → Pieces → Option ℕ → Bool
 begins_by entries again list (Some block) = block == 0 && (length entries == 1 && length again == 0)
 begins_by entries again list None = begin_with_dispatch list && (length again == 0 || is_loop list)

@@ -1,43 +1,43 @@
-//! The shape of a body, by where the code of each of its blocks stands.
+//! The structured regions of a body, by where the code of each of its blocks is placed.
 
 use crate::dominators::Order;
 use crate::flow::{ENTRY, node_of};
 use crate::placing::{Placement, PlanStage};
 use crate::regions::Region;
-use sa_ast::NoMemory;
+use failure::{Failure, Invariant, known};
 use sa_cfg::{CfgBody, Terminator};
 use sa_graph::entry;
 use sqlite_items::Items;
 use std::alloc::Global;
 
-/// What a shape is made of.
+/// What the regions are made of.
 #[derive(Clone, Copy)]
 pub(crate) struct RegionPlan<'a> {
     pub body: &'a CfgBody,
     pub order: &'a Order,
     pub placing: &'a Placement,
-    /// Whether the body goes on at other blocks than the first one.
+    /// Whether the body also resumes at other blocks than the first one.
     pub chooses: bool,
 }
 
-/// A shape so far, or that it would nest too deep.
+/// Regions so far, or that they would nest too deep.
 #[derive(Drop)]
 pub(crate) enum ListResult {
     List(Items<Region>),
     TooDeep,
 }
 
-/// The shape of a body, which nests at most this deep. Without a choice it begins with the first block, the one behind the entry.
+/// The regions of a body, which nest at most this deep. Without a dispatch they begin with the first block, the one after the entry.
 pub(crate) fn build_list(
     alloc: Global,
     plan: RegionPlan<'_>,
     depth: u32,
-) -> Result<ListResult, NoMemory> {
+) -> Result<ListResult, Failure> {
     let rank = u32::from(!plan.chooses);
     list_of(alloc, plan, rank, plan.placing.first_stage(rank), depth)
 }
 
-/// The code of a node from a stage on, which nests at most this deep. What stands at its end, each behind the other, is no deeper.
+/// The code of a node from a stage on, which nests at most this deep. What follows at its end, one after the other, is no deeper.
 #[cycle(building)]
 fn list_of(
     alloc: Global,
@@ -45,7 +45,7 @@ fn list_of(
     rank: u32,
     stage: PlanStage,
     depth: u32,
-) -> Result<ListResult, NoMemory> {
+) -> Result<ListResult, Failure> {
     let mut list = Items::new(alloc);
     let mut next = Some((rank, stage));
     for _ in 0..plan.order.nodes.len().saturating_mul(2) {
@@ -70,9 +70,9 @@ fn list_of(
 /// A piece of a list.
 #[derive(Drop)]
 enum Piece {
-    /// Nothing stands behind it.
+    /// Nothing follows it.
     Only(Region),
-    /// The code of this node stands behind it.
+    /// The code of this node follows it.
     Before(Region, u32),
     TooDeep,
 }
@@ -85,7 +85,7 @@ fn stage_piece(
     rank: u32,
     stage: PlanStage,
     depth: u32,
-) -> Result<Piece, NoMemory> {
+) -> Result<Piece, Failure> {
     if stage == PlanStage::Block {
         return block_of(alloc, plan, rank, depth);
     }
@@ -104,15 +104,15 @@ fn stage_piece(
     })
 }
 
-/// The block of a node, with what its exit alone leads to.
+/// The block of a node, with what its terminator alone leads to.
 #[cycle(building)]
-fn block_of(alloc: Global, plan: RegionPlan<'_>, rank: u32, depth: u32) -> Result<Piece, NoMemory> {
-    let node = entry(&plan.order.nodes, rank as usize)?;
+fn block_of(alloc: Global, plan: RegionPlan<'_>, rank: u32, depth: u32) -> Result<Piece, Failure> {
+    let node = entry(&plan.order.nodes, rank as usize, Invariant::CfgNumber)?;
     if node == ENTRY {
         return before(plan, rank, Region::Dispatch, 0);
     }
     let number = node - 1;
-    let block = plan.body.blocks.get(number as usize).ok_or(NoMemory)?;
+    let block = known(plan.body.blocks.get(number as usize), Invariant::CfgNumber)?;
     match &block.exit {
         Terminator::Jump(to) => before(plan, rank, Region::Basic(number), *to),
         Terminator::Branch { test: _, yes, no } => branch_of(alloc, plan, rank, *yes, *no, depth),
@@ -120,24 +120,24 @@ fn block_of(alloc: Global, plan: RegionPlan<'_>, rank: u32, depth: u32) -> Resul
     }
 }
 
-/// A piece, with the block behind it whose code stands there, where it does.
-fn before(plan: RegionPlan<'_>, from: u32, shape: Region, block: u32) -> Result<Piece, NoMemory> {
+/// A piece, with the block after it whose code is placed there, where it is.
+fn before(plan: RegionPlan<'_>, from: u32, shape: Region, block: u32) -> Result<Piece, Failure> {
     Ok(match stands_there(plan, from, block)? {
         Some(rank) => Piece::Before(shape, rank),
         None => Piece::Only(shape),
     })
 }
 
-/// The node of a block whose code stands at the exit of a node that leads to it. An edge back doesn't lead on.
-fn stands_there(plan: RegionPlan<'_>, from: u32, block: u32) -> Result<Option<u32>, NoMemory> {
-    let rank = plan.order.rank(node_of(block)?).ok_or(NoMemory)?;
+/// The node of a block whose code is placed at the terminator of a node that leads to it. A back edge doesn't lead on.
+fn stands_there(plan: RegionPlan<'_>, from: u32, block: u32) -> Result<Option<u32>, Failure> {
+    let rank = known(plan.order.rank(node_of(block)?), Invariant::CfgNumber)?;
     if rank <= from || plan.placing.follows(rank) {
         return Ok(None);
     }
     Ok(Some(rank))
 }
 
-/// A block with a branch. Where both sides stand there, the one for where the test holds stands inside.
+/// A block with a branch. Where both sides are placed there, the one for where the test holds is inside.
 #[cycle(building)]
 fn branch_of(
     alloc: Global,
@@ -146,8 +146,8 @@ fn branch_of(
     yes: u32,
     no: u32,
     depth: u32,
-) -> Result<Piece, NoMemory> {
-    let number = entry(&plan.order.nodes, rank as usize)?.saturating_sub(1);
+) -> Result<Piece, Failure> {
+    let number = entry(&plan.order.nodes, rank as usize, Invariant::CfgNumber)?.saturating_sub(1);
     let Some(following) = stands_there(plan, rank, no)? else {
         return before(plan, rank, Region::Basic(number), yes);
     };

@@ -1,6 +1,6 @@
-//! The blocks of a flat body as structured control: blocks, loops and conditions inside one another, as WebAssembly has them.
+//! The blocks of a CFG body as structured regions: blocks, loops and conditions inside one another, as WebAssembly has them.
 //!
-//! A shape is found by way of dominators and loops, and then tried against the body: what isn't right is not given.
+//! The regions are found by way of dominators and loops, and then verified against the body: what isn't right isn't returned.
 #![tactic(auto)]
 
 mod building;

@@ -1,11 +1,11 @@
-//! The trial whether the blocks in which a body begins and goes on are numbered by their places among the entries.
+//! The verifier of the numbering: whether the blocks in which a body begins and resumes are numbered by their indices among the entries.
 
 ghost use Rattle.std.specs.Prelude.{◌≡◌, IsTrue, Some, slice_get};
 ghost use Rattle.sa_structure.specs.Numbering.{AreNumbered, ArePlaces, IsPlace};
 ghost use Rattle.sa_structure.specs.Stands as are;
 
-/// Whether the first entry is block 0, each entry has a number, and numbers are places among the entries, also those by which blocks
-/// are reached again.
+/// Whether the first entry is block 0, each entry has a number, and numbers are indices of the entries, also those by which blocks are
+/// reached again.
 pub(crate) fn are_numbered(entries: &[u32], numbers: &[Option<u32>], again: &[Option<u32>]) -> bool
     ensures { IsTrue result → AreNumbered entries.now numbers.now again.now }
 {
@@ -35,7 +35,7 @@ pub(crate) fn is_numbered(numbers: &[Option<u32>], block: u32) -> bool
     numbers.get(block as usize).copied().flatten().is_some()
 }
 
-/// Whether the number of each block that has one is its place among the entries.
+/// Whether the number of each block that has one is its index among the entries.
 #[tactic(auto, using(crate::proofs::Places::numbered))]
 fn are_places(entries: &[u32], numbers: &[Option<u32>]) -> bool
     ensures { IsTrue result → ArePlaces entries.now numbers.now }
@@ -48,7 +48,7 @@ fn are_places(entries: &[u32], numbers: &[Option<u32>]) -> bool
     true
 }
 
-/// Whether the number of a block, if it has one, is its place among the entries.
+/// Whether the number of a block, if it has one, is its index among the entries.
 fn is_its_place(entries: &[u32], numbers: &[Option<u32>], block: usize) -> bool
     ensures { IsTrue result → IsPlace entries.now numbers.now block }
 {

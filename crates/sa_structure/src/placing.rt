@@ -1,48 +1,48 @@
-//! Where the code of each block stands: at the exit that alone leads to it; or behind a part, in whose code it is jumped to: the part
-//! of its dominator, or of the loop that is left on the way from there. Nodes are named by their places in the order.
+//! Where the code of each block is placed: at the terminator that alone leads to it; or after a labelled block, in whose code it is jumped
+//! to: that of its dominator, or of the loop that is left on the path from there. Nodes are named by their positions in the order.
 
 use crate::dominators::{Dominators, Order};
 use crate::flow::{EdgeKind, Flow};
 use crate::loops::Loops;
-use sa_ast::NoMemory;
+use failure::{Failure, Invariant};
 use sa_graph::{entry, put, word};
 use std::alloc::Global;
 
-/// A stage of the code of a node: what stands around what is further in. Each stage is that of all the code before it, and the one
-/// that is furthest out comes first.
+/// A stage of the code of a node: a region around what is further in. Each stage is that of all the code before it, and the one that is
+/// furthest out comes first.
 #[derive(Clone, Copy, Debug, PartialEq, Eq)]
 pub(crate) enum PlanStage {
-    /// A part, and behind it the code of this node, which isn't in the loop of the node.
+    /// A labelled block, and after it the code of this node, which isn't in the loop of the stage's node.
     Outside(u32),
     /// The loop of the node.
     Loop,
-    /// A part, and behind it the code of this node.
+    /// A labelled block, and after it the code of this node.
     Inside(u32),
     /// The block itself.
     Block,
 }
 
-/// Where the code of each node stands.
+/// Where the code of each node is placed.
 #[derive(Drop)]
 pub(crate) struct Placement {
     pub loops: Loops,
     /// For each node whether it is jumped to.
     follows: Vec<bool>,
-    /// For each node the last of the nodes behind its loop, and the last of those behind its block.
+    /// For each node the last of the nodes after its loop, and the last of those after its block.
     outside: Vec<Option<u32>>,
     inside: Vec<Option<u32>>,
-    /// For each node that is jumped to the one that stands before it behind the same node.
+    /// For each node that is jumped to the one that comes before it after the same node.
     before: Vec<Option<u32>>,
 }
 
-/// Where the code of each node stands.
+/// Where the code of each node is placed.
 pub(crate) fn placing_of(
     alloc: Global,
     flow: &Flow,
     order: &Order,
     dominators: &Dominators,
     loops: Loops,
-) -> Result<Placement, NoMemory> {
+) -> Result<Placement, Failure> {
     let count = order.nodes.len();
     let mut placing = Placement {
         loops,
@@ -53,22 +53,23 @@ pub(crate) fn placing_of(
     };
     let jumped = jumped_to(alloc, flow, order)?;
     for rank in 1..count {
-        placing.place(dominators, &jumped, word(rank)?)?;
+        placing.place(dominators, &jumped, word(rank, Invariant::CfgNumber)?)?;
     }
     Ok(placing)
 }
 
 /// For each node whether it needs a label: more than one edge leads on to it, or a raise or the entry does.
-fn jumped_to(alloc: Global, flow: &Flow, order: &Order) -> Result<Vec<bool>, NoMemory> {
+fn jumped_to(alloc: Global, flow: &Flow, order: &Order) -> Result<Vec<bool>, Failure> {
     let mut reached = vec![in alloc; false; order.nodes.len()]?;
     let mut jumped = vec![in alloc; false; order.nodes.len()]?;
     for edge in 0..flow.edges() {
         let (start, end, way) = flow.edge(edge)?;
         if let Some(rank) = led_on(order, start, end, way) {
-            let again = entry(&reached, rank as usize)? || way == EdgeKind::Jump;
-            put(&mut reached, rank as usize, true)?;
+            let again = entry(&reached, rank as usize, Invariant::CfgNumber)?
+                || way == EdgeKind::Jump;
+            put(&mut reached, rank as usize, true, Invariant::CfgNumber)?;
             if again {
-                put(&mut jumped, rank as usize, true)?;
+                put(&mut jumped, rank as usize, true, Invariant::CfgNumber)?;
             }
         }
     }
@@ -89,27 +90,42 @@ impl Placement {
         dominators: &Dominators,
         jumped: &[bool],
         rank: u32,
-    ) -> Result<(), NoMemory> {
+    ) -> Result<(), Failure> {
         let above = dominators.above(rank)?;
         if let Some(head) = self.loops.left_between(above, rank) {
-            let last = entry(&self.outside, head as usize)?;
-            put(&mut self.outside, head as usize, Some(rank))?;
+            let last = entry(&self.outside, head as usize, Invariant::CfgNumber)?;
+            put(
+                &mut self.outside,
+                head as usize,
+                Some(rank),
+                Invariant::CfgNumber,
+            )?;
             return self.follow(rank, last);
         }
-        if entry(jumped, rank as usize)? {
-            let last = entry(&self.inside, above as usize)?;
-            put(&mut self.inside, above as usize, Some(rank))?;
+        if entry(jumped, rank as usize, Invariant::CfgNumber)? {
+            let last = entry(&self.inside, above as usize, Invariant::CfgNumber)?;
+            put(
+                &mut self.inside,
+                above as usize,
+                Some(rank),
+                Invariant::CfgNumber,
+            )?;
             return self.follow(rank, last);
         }
         Ok(())
     }
 
-    fn follow(&mut self, rank: u32, before: Option<u32>) -> Result<(), NoMemory> {
-        put(&mut self.follows, rank as usize, true)?;
-        put(&mut self.before, rank as usize, before)
+    fn follow(&mut self, rank: u32, before: Option<u32>) -> Result<(), Failure> {
+        put(&mut self.follows, rank as usize, true, Invariant::CfgNumber)?;
+        put(
+            &mut self.before,
+            rank as usize,
+            before,
+            Invariant::CfgNumber,
+        )
     }
 
-    /// Whether the code of a node stands behind a part.
+    /// Whether the code of a node follows a labelled block.
     pub(crate) fn follows(&self, rank: u32) -> bool {
         self.follows.get(rank as usize).copied().unwrap_or(true)
     }

@@ -1,4 +1,4 @@
-//! Where the raises of steps go.
+//! Where the raises of operations go.
 
 ghost use Rattle.std.specs.Prelude.{◌≡◌};
 ghost use Rattle.sa_liveness.specs.Saved.{raised_by};
@@ -6,7 +6,7 @@ ghost use Rattle.sa_structure.specs.Stands.{is_raise_of, leaves};
 
 use sa_cfg::{CfgBody, CfgOperation, Handler, Terminator};
 
-/// Where a fault or a raise of a step goes.
+/// Where a fault or a raise of an operation goes.
 pub fn raised_of(step: &CfgOperation) -> Option<Handler>
     ensures { result ≡ raised_by step.now }
 {
@@ -24,7 +24,7 @@ pub fn raised_of(step: &CfgOperation) -> Option<Handler>
     }
 }
 
-/// Whether the block that a raise goes to does nothing but leave the body with this raise. Steps don't jump to such a block.
+/// Whether the block that a raise goes to does nothing but leave the body with this raise. Operations don't jump to such a block.
 pub fn leaves(body: &CfgBody, raised: Handler) -> bool
     ensures { result ≡ leaves body.now raised }
 {
@@ -34,7 +34,7 @@ pub fn leaves(body: &CfgBody, raised: Handler) -> bool
     }
 }
 
-/// Whether an exit leaves the body with this raise.
+/// Whether a terminator leaves the body with this raise.
 fn is_its_exit(exit: &Terminator, raised: Handler) -> bool
     ensures { result ≡ is_raise_of raised exit.now }
 {

@@ -1,26 +1,26 @@
-//! Shapes as a type.
+//! Structured regions as a type.
 
 ghost use Rattle.std.specs.Prelude.{◌≡◌};
 ghost use Rattle.sa_structure.specs.Regions.{piece_after, first, first_of, piece, pieces};
 
 use sqlite_items::Items;
 
-/// A piece of structured control. The pieces of a list stand one after the other.
+/// A structured region, a piece of structured control. The pieces of a list follow one another.
 #[derive(Drop)]
 pub enum Region {
-    /// The steps and the exit of a block. What it goes on in begins behind it, or is jumped to.
+    /// The operations and the terminator of a block. The block in which it continues begins after it, or is jumped to.
     Basic(u32),
     /// The same, for a block that ends with a branch: the list is where the branch goes if its test holds.
     If(u32, Items<Region>),
-    /// A jump inside it to the block that begins behind it leaves it.
+    /// A labelled block: a jump inside it to the block that begins after it leaves it.
     LabelledBlock(Items<Region>),
-    /// A jump inside it to the block that it begins with begins it anew.
+    /// A loop: a jump inside it to the block that it begins with begins it anew.
     Loop(Items<Region>),
-    /// The body begins here, or goes on in the block that it was suspended before.
+    /// The dispatch: the body begins here, or resumes in the block before which it was suspended.
     Dispatch,
 }
 
-/// The block that a list begins with. A list that begins with the choice begins with none.
+/// The block that a list begins with. A list that begins with the dispatch begins with none.
 #[tactic(auto, using(crate::proofs::Pieces::beginnings))]
 #[cycle(first)]
 pub fn first_of(list: &[Region]) -> Option<u32>
@@ -47,7 +47,7 @@ fn first_of_region(shape: &Region) -> Option<u32>
     }
 }
 
-/// The block that begins behind a piece: the one that the rest of its list begins with, or else the one behind the list.
+/// The block that begins after a piece: the one that the rest of its list begins with, or else the one after the list.
 #[tactic(auto, using(crate::proofs::Pieces::beginnings))]
 pub fn block_after(rest: &[Region], following: Option<u32>) -> Option<u32>
     ensures { result ≡ piece_after (pieces rest.now) following }

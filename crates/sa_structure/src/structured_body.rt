@@ -1,4 +1,4 @@
-//! The shape of a body, found and tried.
+//! The structured regions of a body, found and verified.
 
 ghost use Rattle.std.specs.Prelude.{◌≡◌, ◌==◌, length, not, IfOk, IfSome, IsTrue};
 ghost use Rattle.sa_structure.specs.Right.{StandsFor};
@@ -11,32 +11,32 @@ use crate::numbering::are_numbered;
 use crate::placing::placing_of;
 use crate::regions::Region;
 use crate::verifier::{Against, occurs};
-use sa_ast::NoMemory;
+use failure::{Failure, Invariant, known};
 use sa_cfg::CfgBody;
 use sa_graph::{Graph, put, word};
 use sqlite_items::Items;
 use std::alloc::Global;
 
-/// How deep shapes nest at most.
+/// How deep regions nest at most.
 const DEEPEST: u32 = 300;
 
 /// How often edges are cut at most.
 const CUTS: u32 = 8;
 
-/// The shape of a body.
+/// The structured regions of a body.
 #[derive(Drop)]
 pub struct StructuredBody {
     pub list: Items<Region>,
-    /// The blocks in which the body begins and goes on, by the numbers of the choice. The first is block 0.
+    /// The blocks in which the body begins and resumes, by the numbers of the dispatch. The first is block 0.
     pub entries: Items<u32>,
-    /// For each block its number in the choice, if it has one.
+    /// For each block its number in the dispatch, if it has one.
     pub numbers: Items<Option<u32>>,
-    /// For each block its number in the choice, if jumps to it go by way of that. There are none where the choice is made once.
+    /// For each block its number in the dispatch, if jumps to it go by way of that. There are none where the dispatch is made once.
     pub again: Items<Option<u32>>,
 }
 
 impl StructuredBody {
-    /// Whether jumps go back to the choice, which stands in a loop then.
+    /// Whether jumps go back to the dispatch, which is in a loop then.
     pub fn repeats(&self) -> bool
         ensures { result ≡ not (length self.now.again == 0) }
     {
@@ -44,7 +44,7 @@ impl StructuredBody {
     }
 }
 
-/// The flow of a body without crossing edges, and what is known of it.
+/// The flow graph of a body without crossing edges, and what is known of it.
 #[derive(Drop)]
 struct Known {
     flow: Flow,
@@ -54,12 +54,13 @@ struct Known {
     edges: EdgesBack,
 }
 
-/// The shape of a body. The answer is `None` where it would nest too deep, or the way that was taken to find it doesn't lead to one.
+/// The structured regions of a body. It is `None` where they would nest too deep, or the steps that were taken to find them don't lead to
+/// any.
 ///
 /// # Errors
 ///
-/// `NoMemory`, also where a number of the body names no block.
-pub fn structure_of(alloc: Global, body: &CfgBody) -> Result<Option<StructuredBody>, NoMemory>
+/// A `Failure`: `Broken` where a number of the body names no block.
+pub fn structure_of(alloc: Global, body: &CfgBody) -> Result<Option<StructuredBody>, Failure>
     ensures { IfOk result (λ found. IfSome found (StandsFor body.now)) }
 {
     let mut flow = flow_of(alloc, body)?;
@@ -79,8 +80,8 @@ pub fn structure_of(alloc: Global, body: &CfgBody) -> Result<Option<StructuredBo
     Ok(None)
 }
 
-/// What is known of a flow.
-fn known_of(alloc: Global, flow: Flow) -> Result<Option<Known>, NoMemory> {
+/// What is known of a flow graph.
+fn known_of(alloc: Global, flow: Flow) -> Result<Option<Known>, Failure> {
     let graph = flow.graph(alloc)?;
     let back = graph.transposed(alloc)?;
     let order = Order::of(alloc, &graph)?;
@@ -98,8 +99,8 @@ fn known_of(alloc: Global, flow: Flow) -> Result<Option<Known>, NoMemory> {
     }))
 }
 
-/// Cuts the crossing edges: their ends are reached by way of the choice.
-fn cut_crossing(known: Known, again: &mut Vec<Option<u32>>) -> Result<Flow, NoMemory> {
+/// Cuts the crossing edges: their ends are reached by way of the dispatch.
+fn cut_crossing(known: Known, again: &mut Vec<Option<u32>>) -> Result<Flow, Failure> {
     let Known {
         mut flow,
         edges,
@@ -110,25 +111,25 @@ fn cut_crossing(known: Known, again: &mut Vec<Option<u32>>) -> Result<Flow, NoMe
         let (_, end, _) = flow.edge(*edge)?;
         let block = end.saturating_sub(1);
         let number = place_of(&flow.entries, block)?;
-        put(again, block as usize, Some(number))?;
+        put(again, block as usize, Some(number), Invariant::CfgNumber)?;
     }
     Ok(flow)
 }
 
-/// The place of a block among the entries.
-fn place_of(entries: &[u32], block: u32) -> Result<u32, NoMemory> {
+/// The index of a block among the entries.
+fn place_of(entries: &[u32], block: u32) -> Result<u32, Failure> {
     let place = entries.iter().position(|other| *other == block);
-    word(place.ok_or(NoMemory)?)
+    word(known(place, Invariant::CfgNumber)?, Invariant::CfgNumber)
 }
 
-/// The shape of a flow without crossing edges, where it is right.
+/// The regions of a flow graph without crossing edges, where they are right.
 fn shape_found(
     alloc: Global,
     body: &CfgBody,
     known: Known,
     again: &[Option<u32>],
     repeats: bool,
-) -> Result<Option<StructuredBody>, NoMemory>
+) -> Result<Option<StructuredBody>, Failure>
     ensures { IfOk result (λ found. IfSome found (StandsFor body.now)) }
 {
     let loops = Loops::of(alloc, &known.order, &known.back, &known.edges)?;
@@ -156,8 +157,8 @@ fn shape_found(
     Ok(Some(shaped))
 }
 
-/// Whether a shape stands for a body, with its blocks numbered as the choice has them.
-fn stands_for(alloc: Global, body: &CfgBody, shaped: &StructuredBody) -> Result<bool, NoMemory>
+/// Whether regions stand for a body, with its blocks numbered as the dispatch has them.
+fn stands_for(alloc: Global, body: &CfgBody, shaped: &StructuredBody) -> Result<bool, Failure>
     ensures { IfOk result (λ so. IsTrue so → StandsFor body.now shaped.now) }
 {
     let entries = shaped.entries.as_slice();
@@ -173,8 +174,8 @@ fn stands_for(alloc: Global, body: &CfgBody, shaped: &StructuredBody) -> Result<
     Ok(are_numbered(entries, shaped.numbers.as_slice(), again))
 }
 
-/// A shape whose choice is jumped back to, as a loop.
-fn in_loop(alloc: Global, list: Items<Region>, repeats: bool) -> Result<Items<Region>, NoMemory> {
+/// Regions whose dispatch is jumped back to, as a loop.
+fn in_loop(alloc: Global, list: Items<Region>, repeats: bool) -> Result<Items<Region>, Failure> {
     if !repeats {
         return Ok(list);
     }
@@ -183,15 +184,20 @@ fn in_loop(alloc: Global, list: Items<Region>, repeats: bool) -> Result<Items<Re
     Ok(outer)
 }
 
-/// What has to be known of a shape where it is written.
+/// What has to be known of the regions where they are emitted.
 fn described(
     alloc: Global,
     list: Items<Region>,
     against: Against<'_>,
-) -> Result<StructuredBody, NoMemory> {
+) -> Result<StructuredBody, Failure> {
     let mut numbers = vec![in alloc; None; against.body.blocks.len()]?;
     for (place, block) in against.entries.iter().enumerate() {
-        put(&mut numbers, *block as usize, Some(word(place)?))?;
+        put(
+            &mut numbers,
+            *block as usize,
+            Some(word(place, Invariant::CfgNumber)?),
+            Invariant::CfgNumber,
+        )?;
     }
     Ok(StructuredBody {
         list,

@@ -1,5 +1,5 @@
-//! The trial whether a shape stands for the blocks of a body: what each block goes on in begins behind it, or is jumped to from where
-//! its label can be seen.
+//! The verifier of structured regions: that they stand for the blocks of a body. The block in which each block continues begins after it,
+//! or is jumped to from where its label is in scope.
 
 ghost use Rattle.std.specs.Prelude.{◌≡◌, IfOk};
 ghost use Rattle.sa_structure.specs.Regions.{piece, pieces};
@@ -8,17 +8,17 @@ ghost use Rattle.sa_structure.specs.Stands as are;
 use crate::numbering::is_numbered;
 use crate::raises::{leaves, raised_of};
 use crate::regions::{Region, block_after, first_of};
-use sa_ast::NoMemory;
+use failure::Failure;
 use sa_cfg::{CfgBody, CfgOperation, Handler, Terminator};
 use std::alloc::Global;
 
-/// What a shape is tried against.
+/// What regions are verified against.
 #[derive(Clone, Copy)]
 pub(crate) struct Against<'a> {
     pub body: &'a CfgBody,
-    /// The blocks in which the body begins and goes on, the first of which is block 0.
+    /// The blocks in which the body begins and resumes, the first of which is block 0.
     pub entries: &'a [u32],
-    /// For each block its number in the choice, if it is reached again by way of that: of no block where the choice is made once.
+    /// For each block its number in the dispatch, if it is reached again by way of that: of no block where the dispatch is made once.
     pub again: &'a [Option<u32>],
 }
 
@@ -26,8 +26,8 @@ pub(crate) struct Against<'a> {
 ///
 /// # Errors
 ///
-/// `NoMemory`.
-pub(crate) fn occurs(alloc: Global, against: Against<'_>, list: &[Region]) -> Result<bool, NoMemory>
+/// A `Failure`.
+pub(crate) fn occurs(alloc: Global, against: Against<'_>, list: &[Region]) -> Result<bool, Failure>
     ensures { IfOk result (λ so. so ≡
         are.occurs against.entry.body.now against.entry.entries.now against.entry.again.now (pieces list.now)) }
 {
@@ -37,7 +37,7 @@ pub(crate) fn occurs(alloc: Global, against: Against<'_>, list: &[Region]) -> Re
     list_stands(alloc, against, &[], list, None)
 }
 
-/// Whether a list begins with the first block where that is the one entry, and else with the choice; and is one loop with the choice
+/// Whether a list begins with the first block where that is the one entry, and else with the dispatch; and is one loop with the dispatch
 /// where that is reached again.
 fn begins_correctly(against: Against<'_>, list: &[Region]) -> bool
     ensures { result ≡ are.begins_correctly against.entry.entries.now against.entry.again.now (pieces list.now) }
@@ -48,7 +48,7 @@ fn begins_correctly(against: Against<'_>, list: &[Region]) -> bool
     }
 }
 
-/// Whether a list begins with the choice.
+/// Whether a list begins with the dispatch.
 #[tactic(auto, using(crate::proofs::Trials::tried))]
 #[cycle(choosing)]
 fn begin_with_dispatch(list: &[Region]) -> bool
@@ -60,7 +60,7 @@ fn begin_with_dispatch(list: &[Region]) -> bool
     }
 }
 
-/// Whether a piece begins with the choice.
+/// Whether a piece begins with the dispatch.
 #[tactic(auto, using(crate::proofs::Trials::tried))]
 #[cycle(choosing)]
 fn begins_with_dispatch(shape: &Region) -> bool
@@ -85,7 +85,7 @@ fn is_loop(list: &[Region]) -> bool
     }
 }
 
-/// Whether a piece is a loop, and nothing stands behind it.
+/// Whether a piece is a loop, and nothing follows it.
 #[tactic(auto, using(crate::proofs::Trials::tried))]
 fn is_whole_loop(shape: &Region, rest: &[Region]) -> bool
     ensures { result ≡ are.is_whole_loop (piece shape.now) (pieces rest.now) }
@@ -96,7 +96,7 @@ fn is_whole_loop(shape: &Region, rest: &[Region]) -> bool
     }
 }
 
-/// Whether a list stands for its blocks, before the block behind it. `seen` has the blocks whose labels can be seen.
+/// Whether a list stands for its blocks, where `following` is the block after it. `seen` has the blocks whose labels are in scope.
 #[tactic(auto, using(crate::proofs::Trials::tried))]
 #[cycle(occurrence)]
 fn list_stands(
@@ -105,7 +105,7 @@ fn list_stands(
     seen: &[u32],
     list: &[Region],
     following: Option<u32>,
-) -> Result<bool, NoMemory>
+) -> Result<bool, Failure>
     ensures { IfOk result (λ so. so ≡
         are.pieces_stand against.entry.body.now against.entry.entries.now against.entry.again.now seen.now following (pieces list.now)) }
 {
@@ -127,7 +127,7 @@ fn region_stands(
     seen: &[u32],
     shape: &Region,
     following: Option<u32>,
-) -> Result<bool, NoMemory>
+) -> Result<bool, Failure>
     ensures { IfOk result (λ so. so ≡
         are.piece_stands against.entry.body.now against.entry.entries.now against.entry.again.now seen.now following (piece shape.now)) }
 {
@@ -169,7 +169,7 @@ fn labelled_stands(
     label: Option<u32>,
     list: &[Region],
     following: Option<u32>,
-) -> Result<bool, NoMemory>
+) -> Result<bool, Failure>
     ensures { IfOk result (λ so. so ≡ are.with_label label seen.now (λ more.
         are.pieces_stand against.entry.body.now against.entry.entries.now against.entry.again.now more following (pieces list.now))) }
 {
@@ -184,7 +184,7 @@ fn labelled_stands(
     list_stands(alloc, against, &more, list, following)
 }
 
-/// Whether the choice comes to each of the blocks that the body begins or goes on in.
+/// Whether the dispatch comes to each of the blocks in which the body begins or resumes.
 #[tactic(auto, using(crate::proofs::Trials::tried))]
 fn dispatch_stands(entries: &[u32], seen: &[u32], following: Option<u32>) -> bool
     ensures { result ≡ are.each (are.is_come_to seen.now following) entries.now }
@@ -197,7 +197,7 @@ fn dispatch_stands(entries: &[u32], seen: &[u32], following: Option<u32>) -> boo
     true
 }
 
-/// Whether the choice comes to a block: it begins behind that, or its label can be seen.
+/// Whether the dispatch comes to a block: it begins after that, or its label is in scope.
 fn is_come_to(seen: &[u32], following: Option<u32>, block: u32) -> bool
     ensures { result ≡ are.is_come_to seen.now following block }
 {
@@ -227,21 +227,21 @@ fn is_in(list: &[u32], block: u32) -> bool
     false
 }
 
-/// Whether a block is gone on in: it begins behind, or is jumped to.
+/// Whether a block is reached: it begins after the piece, or is jumped to.
 fn is_reached(against: Against<'_>, seen: &[u32], following: Option<u32>, block: u32) -> bool
     ensures { result ≡ are.is_reached against.entry.again.now seen.now following block }
 {
     begins(following, block) || is_jumped_to(against, seen, block)
 }
 
-/// Whether a block is jumped to: by way of the choice, or its label can be seen.
+/// Whether a block is jumped to: by way of the dispatch, or its label is in scope.
 fn is_jumped_to(against: Against<'_>, seen: &[u32], block: u32) -> bool
     ensures { result ≡ are.is_jumped_to against.entry.again.now seen.now block }
 {
     is_numbered(against.again, block) || is_in(seen, block)
 }
 
-/// Whether a block stands.
+/// Whether a block piece stands for its block.
 fn block_occurs(against: Against<'_>, seen: &[u32], number: u32, following: Option<u32>) -> bool
     ensures { result ≡ are.block_occurs against.entry.body.now against.entry.again.now
         (are.exit_occurs against.entry.body.now against.entry.entries.now against.entry.again.now seen.now following) seen.now number }
@@ -255,7 +255,7 @@ fn block_occurs(against: Against<'_>, seen: &[u32], number: u32, following: Opti
     }
 }
 
-/// Whether a block stands that ends with a branch, whose side for where the test holds begins with a block.
+/// The same for a block that ends with a branch, whose side for where the test holds begins with a block.
 fn if_stands(
     against: Against<'_>,
     seen: &[u32],
@@ -275,7 +275,7 @@ fn if_stands(
     }
 }
 
-/// Whether an exit goes on in blocks that are reached.
+/// Whether a terminator continues in blocks that are reached.
 fn exit_occurs(
     against: Against<'_>,
     seen: &[u32],
@@ -297,7 +297,7 @@ fn exit_occurs(
     }
 }
 
-/// Whether an exit is a branch that goes on in a side, and else in a block that is reached.
+/// Whether a terminator is a branch that continues in a side, and else in a block that is reached.
 fn side_occurs(
     against: Against<'_>,
     seen: &[u32],
@@ -315,7 +315,7 @@ fn side_occurs(
     }
 }
 
-/// Whether the blocks are jumped to that raises of the steps go to.
+/// Whether the blocks are jumped to that raises of the operations go to.
 #[tactic(auto, using(crate::proofs::Trials::tried))]
 fn steps_stand(against: Against<'_>, seen: &[u32], steps: &[CfgOperation]) -> bool
     ensures { result ≡ are.each (are.step_occurs against.entry.body.now against.entry.again.now seen.now) steps.now }
@@ -328,7 +328,7 @@ fn steps_stand(against: Against<'_>, seen: &[u32], steps: &[CfgOperation]) -> bo
     true
 }
 
-/// Whether the block is jumped to that a raise of a step goes to.
+/// Whether the block is jumped to that a raise of an operation goes to.
 fn step_occurs(against: Against<'_>, seen: &[u32], step: &CfgOperation) -> bool
     ensures { result ≡ are.step_occurs against.entry.body.now against.entry.again.now seen.now step.now }
 {
@@ -345,7 +345,7 @@ fn raise_occurs(against: Against<'_>, seen: &[u32], raised: Handler) -> bool
     leaves(against.body, raised) || is_jumped_to(against, seen, raised.block)
 }
 
-/// Whether the block that a suspension goes on in is one of the entries.
+/// Whether the block in which a suspension resumes is one of the entries.
 fn suspension_occurs(against: Against<'_>, resume: Option<u32>) -> bool
     ensures { result ≡ are.suspension_occurs against.entry.entries.now resume }
 {

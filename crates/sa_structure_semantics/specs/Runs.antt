@@ -1,4 +1,4 @@
--- What a shape means: the run of its pieces, by the steps and exits of the flat program.
+-- The semantics of structured regions: the run of their pieces, by the operations and terminators of the CFG program.
 use Rattle.std.specs.Prelude.{ℕ, zero, suc, if◌then◌else◌, List, [], ◌∷◌, Option, Some, None}
 use Rattle.sa_cfg.specs.declared.body.CfgBody.{CfgBody}
 use Rattle.sa_cfg.specs.declared.operation.Terminator.{Terminator}
@@ -12,23 +12,23 @@ use Rattle.sa_cfg_semantics.specs.Terminators.{exit}
 use Rattle.sa_structure.specs.Regions.{Piece, Basic, If, LabelledBlock, Loop, Dispatch, Pieces, nothing, ◌then◌, first, piece_after}
 use Rattle.sa_structure.specs.Stands.{begins, is_numbered}
 
--- what a jump to a block does at a place
+-- what a jump to a block does at a point
 abbrev pub Jumps : Type 0
 Jumps = ℕ → Eval BodyResult
 
--- A way to a block: what begins there, where that is the block, and else a jump.
+-- A transfer to a block: what begins there, where that is the block, and else a jump.
 abbrev pub reach : Option ℕ → Eval BodyResult → Jumps → Jumps
 reach there following jump block = if begins there block then following else jump block
 
--- From a block and a place in it on, `go` runs the bodies that are called.
+-- From a block and a position in it on, `go` runs the bodies that are called.
 module _ (p : CfgProgram) (rows : List (List ℕ)) (go : ℕ → ℕ → Eval BodyResult) where
-  -- a step leads on to what follows, and its raises jump
+  -- an operation leads on to what follows, and its raises jump
   abbrev pub follow_transfer : Jumps → Eval BodyResult → Transfer → Eval BodyResult
   follow_transfer jump next Onward = next
   follow_transfer jump next (To block) = jump block
   follow_transfer jump next (Leaving ending) = pure ending
 
-  -- steps and then an exit, which leads on by `on`
+  -- operations and then a terminator, which leads on by `on`
   abbrev pub run_steps : List CfgOperation → Terminator → (jump on : Jumps) → Eval BodyResult
   run_steps [] e jump on = count 1 >> (exit p e >>= follow_transfer on stuck)
   run_steps (a ∷ rest) e jump on = count 1 >> (step p rows go a >>= follow_transfer jump (run_steps rest e jump on))
@@ -37,10 +37,10 @@ module _ (p : CfgProgram) (rows : List (List ℕ)) (go : ℕ → ℕ → Eval Bo
   abbrev pub run_block : CfgBody → ℕ → (jump on : Jumps) → Eval BodyResult
   run_block b number jump on = at_index b.blocks number >>= (λ block. run_steps block.steps block.exit jump on)
 
-  -- ---- loops: what is inside is run from an entry on, by what a jump does there
+  -- ---- loops: the inside is run from an entry on, by what a jump does there
 
-  -- A jump to the first block begins a loop anew, from the same entry; where it begins with the choice, a jump to a block that is
-  -- reached again by that does, and the block is the entry then.
+  -- A jump to the first block begins a loop anew, from the same entry; where it begins with the dispatch, a jump to a block that is reached
+  -- again by that does, and the block is the entry then.
   abbrev pub again_in : List (Option ℕ) → Option ℕ → (anew : ℕ → Eval BodyResult) → (entry : ℕ) → Jumps → Jumps
   again_in again None anew entry jump block = if is_numbered again block then anew block else jump block
   again_in again (Some head) anew entry jump block = reach (Some head) (anew entry) jump block
@@ -51,7 +51,7 @@ module _ (p : CfgProgram) (rows : List (List ℕ)) (go : ℕ → ℕ → Eval Bo
   run_loop again (suc level) head inside entry jump =
       inside entry (again_in again head (λ e. run_loop again level head inside e jump) entry jump)
 
-  -- The pieces of a body that begins or goes on in the block `entry`. `again` tells which blocks are reached again by the choice, and
+  -- The pieces of a body that begins or resumes in the block `entry`. `again` says which blocks are reached again by the dispatch, and
   -- `level` how often each loop is begun at most.
   module _ (b : CfgBody) (again : List (Option ℕ)) (level : ℕ) where
     abbrev mutual
@@ -69,6 +69,6 @@ module _ (p : CfgProgram) (rows : List (List ℕ)) (go : ℕ → ℕ → Eval Bo
       run_pieces entry (q then rest) jump there following =
           run_piece entry q jump (piece_after rest there) (run_pieces entry rest jump there following)
 
-    -- the whole shape; nothing is around it
+    -- all the regions of a body; nothing is around them
     abbrev pub run_structure : (entry : ℕ) → Pieces → Eval BodyResult
     run_structure entry shape = run_pieces entry shape (λ block. stuck) None stuck

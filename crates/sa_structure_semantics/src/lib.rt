@@ -1,3 +1,3 @@
-//! What the shape of a flat body means, as definitions: the run of its pieces, over the same steps and exits as those of the blocks. No
-//! code runs them.
+//! The semantics of the structured regions of a CFG body, as definitions: the run of its pieces, over the same operations and terminators
+//! as those of the blocks. No code runs them.
 #![tactic(auto)]

@@ -1,4 +1,4 @@
--- A statement that has other statements for the case that no branch is taken, with its types changed.
+-- A statement with statements for the case that no branch is taken (`else`), with its types changed.
 use Rattle.std.proofs.Common.{◌≡◌, List, Option, Some, map}
 use Rattle.sa_ast.specs.declared.expr.Expr.{Expr}
 use Rattle.sa_ast.specs.declared.pos.Pos.{Pos}

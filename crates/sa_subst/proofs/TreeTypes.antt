@@ -1,4 +1,4 @@
--- A tree with its types changed, at each variant.
+-- An AST with its types changed, at each variant.
 use Rattle.std.proofs.Common.{◌≡◌, ℕ, Bool, List, Option, None, Some, map, sym, ap, ◌∙◌}
 use Rattle.std.proofs.lemmas.List.{map_more}
 use Rattle.std.specs.Option.{option_map}

@@ -1,4 +1,4 @@
--- A tree in which each type is changed to itself is as it was, and so is one in which nothing is put in place of anything.
+-- An AST in which each type is changed to itself is unchanged, and so is one in which nothing is substituted for anything.
 use Rattle.std.proofs.Common.{◌≡◌, ℕ, List, [], ◌∷◌, Option, None, Some, map, refl, sym, ap, subst, ◌∙◌}
 use Rattle.std.specs.Option.{option_map}
 use Rattle.sa_ast.specs.declared.expr.Expr.{Expr}
@@ -17,12 +17,12 @@ use Rattle.sa_ast.specs.declared.ty.Ty.TheFolds.{map-Ty, ind-Ty}
 use Rattle.sa_ast.specs.declared.ty.Ty.TheOpen.{Ty-F}
 use Rattle.sa_ast.specs.declared.ty.Ty.TheVariants as ty
 use Rattle.sa_ast.specs.declared.ty.Ty.TheViews.{roll-Ty}
-use Rattle.sa_types.specs.Substitution.{named, named_alone, placed, substituted, substituted_arg}
-use Rattle.sa_types.proofs.Substituting.{placed-Same, substituted-Named, substituted-Same, substituted-Rout, substituted-Iter, substituted_arg-parts}
+use Rattle.sa_subst.specs.Substitution.{named, named_alone, placed, substituted, substituted_arg}
+use Rattle.sa_subst.proofs.Substituting.{placed-Same, substituted-Named, substituted-Same, substituted-Rout, substituted-Iter, substituted_arg-parts}
 use Rattle.sa_subst.specs.Trees.{expr_level, receiver_level, argument_level, expr_with, receiver_with, argument_with}
 use Rattle.sa_subst.proofs.TreeTypes.{expr_with-roll, receiver_with-roll, argument_with-roll}
 
--- a value that f leaves as it is
+-- a value that f leaves unchanged
 abbrev Kept : {A : Type 0} → (A → A) → Type 0
 Kept {A} f = (a : A) × (f a ≡ a)
 

@@ -21,7 +21,7 @@ use Rattle.sa_ast.specs.declared.stmt.TypeArm.{TypeArm}
 use Rattle.sa_ast.specs.declared.ty.Ty.{Ty}
 
 module _ (f : Ty → Ty) where
-  -- ---- one level of an expression, of a receiver and of an argument: what is inside is done already
+  -- ---- one level of an expression, of a receiver and of an argument, after its parts are done
 
   abbrev pub expr_level : Expr-F Expr ExprArg ExprReceiver → Expr
   expr_level (Expr-F.Create ty args pos) = e.Create (option_map f ty) args pos
@@ -46,7 +46,7 @@ module _ (f : Ty → Ty) where
   unfoldable pub argument_with : ExprArg → ExprArg
   argument_with = fold-ExprArg Expr ExprArg ExprReceiver expr_level argument_level receiver_level
 
-  -- ---- one level of a statement and of an arm: the statements inside are done already
+  -- ---- one level of a statement and of an arm, after the statements inside are done
 
   abbrev pub stmt_level : Stmt-F Stmt BranchArm CaseArm TypeArm → Stmt
   stmt_level (Stmt-F.Declare names ty value) = s.Declare names (option_map f ty) (option_map expr_with value)

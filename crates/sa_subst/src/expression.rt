@@ -1,19 +1,20 @@
-//! Expressions of an instance: one function for each kind of tree.
+//! Expressions of an instance: one function for each kind of AST node.
 
 ghost use Rattle.std.specs.Prelude.{◌≡◌, IfOk, map};
 ghost use Rattle.std.specs.Option.{option_map};
-ghost use Rattle.sa_types.specs.Table.{put_in};
+ghost use Rattle.sa_subst.specs.Table.{put_in};
 ghost use Rattle.sa_subst.specs.Trees.{argument_with, expr_with, receiver_with};
 
-use sa_ast::{Expr, ExprArg, ExprReceiver, NoMemory, Ty};
-use sa_types::{Substitution, subst_with};
+use crate::{Substitution, subst_with};
+use failure::Failure;
+use sa_ast::{Expr, ExprArg, ExprReceiver, Ty};
 use sqlite_items::{Boxed, Items};
 use std::alloc::Global;
 
 /// The expression with the substitution made in each type that is written in it. It fails only where memory runs out.
 #[tactic(auto, using(crate::proofs::TreeTypes::expressions))]
 #[cycle(expression)]
-pub fn subst_expr(alloc: Global, e: &Expr, by: &Substitution<'_>) -> Result<Expr, NoMemory>
+pub fn subst_expr(alloc: Global, e: &Expr, by: &Substitution<'_>) -> Result<Expr, Failure>
     ensures { IfOk result (λ copy. copy ≡ expr_with (put_in by.now) e.now) }
 {
     match e {
@@ -52,7 +53,7 @@ pub fn subst_expr(alloc: Global, e: &Expr, by: &Substitution<'_>) -> Result<Expr
 /// The same in an expression in a box.
 #[tactic(auto, using(crate::proofs::TreeTypes::expressions))]
 #[cycle(expression)]
-fn boxed(alloc: Global, e: &Boxed<Expr>, by: &Substitution<'_>) -> Result<Boxed<Expr>, NoMemory>
+fn boxed(alloc: Global, e: &Boxed<Expr>, by: &Substitution<'_>) -> Result<Boxed<Expr>, Failure>
     ensures { IfOk result (λ copy. copy ≡ expr_with (put_in by.now) e.now) }
 {
     let copy = subst_expr(alloc, e.get(), by)?;
@@ -66,7 +67,7 @@ fn optional_boxed(
     alloc: Global,
     e: &Option<Boxed<Expr>>,
     by: &Substitution<'_>,
-) -> Result<Option<Boxed<Expr>>, NoMemory>
+) -> Result<Option<Boxed<Expr>>, Failure>
     ensures { IfOk result (λ copy. copy ≡ option_map (expr_with (put_in by.now)) e.now) }
 {
     match e {
@@ -82,7 +83,7 @@ pub(crate) fn exprs(
     alloc: Global,
     list: &[Expr],
     by: &Substitution<'_>,
-) -> Result<Items<Expr>, NoMemory>
+) -> Result<Items<Expr>, Failure>
     ensures { IfOk result (λ copies. copies ≡ map (expr_with (put_in by.now)) list.now) }
 {
     let mut copies = Items::new(alloc);
@@ -92,14 +93,14 @@ pub(crate) fn exprs(
     Ok(copies)
 }
 
-/// The same in what a call is made on.
+/// The same in the receiver of a call.
 #[tactic(auto, using(crate::proofs::TreeTypes::expressions))]
 #[cycle(expression)]
 fn receiver(
     alloc: Global,
     on: &ExprReceiver,
     by: &Substitution<'_>,
-) -> Result<ExprReceiver, NoMemory>
+) -> Result<ExprReceiver, Failure>
     ensures { IfOk result (λ copy. copy ≡ receiver_with (put_in by.now) on.now) }
 {
     match on {
@@ -116,7 +117,7 @@ fn arguments(
     alloc: Global,
     args: &[ExprArg],
     by: &Substitution<'_>,
-) -> Result<Items<ExprArg>, NoMemory>
+) -> Result<Items<ExprArg>, Failure>
     ensures { IfOk result (λ copies. copies ≡ map (argument_with (put_in by.now)) args.now) }
 {
     let mut copies = Items::new(alloc);
@@ -129,7 +130,7 @@ fn arguments(
 /// The same in an argument of a call.
 #[tactic(auto, using(crate::proofs::TreeTypes::expressions))]
 #[cycle(expression)]
-fn argument(alloc: Global, arg: &ExprArg, by: &Substitution<'_>) -> Result<ExprArg, NoMemory>
+fn argument(alloc: Global, arg: &ExprArg, by: &Substitution<'_>) -> Result<ExprArg, Failure>
     ensures { IfOk result (λ copy. copy ≡ argument_with (put_in by.now) arg.now) }
 {
     match arg {
@@ -143,7 +144,7 @@ pub(crate) fn optional_expr(
     alloc: Global,
     e: &Option<Expr>,
     by: &Substitution<'_>,
-) -> Result<Option<Expr>, NoMemory>
+) -> Result<Option<Expr>, Failure>
     ensures { IfOk result (λ copy. copy ≡ option_map (expr_with (put_in by.now)) e.now) }
 {
     match e {
@@ -157,7 +158,7 @@ pub(crate) fn optional_type(
     alloc: Global,
     ty: &Option<Ty>,
     by: &Substitution<'_>,
-) -> Result<Option<Ty>, NoMemory>
+) -> Result<Option<Ty>, Failure>
     ensures { IfOk result (λ copy. copy ≡ option_map (put_in by.now) ty.now) }
 {
     match ty {

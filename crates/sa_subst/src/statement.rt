@@ -1,19 +1,20 @@
-//! Statements of an instance: one function for each kind of tree.
+//! Statements of an instance: one function for each kind of AST node.
 
 ghost use Rattle.std.specs.Prelude.{◌≡◌, IfOk, map};
-ghost use Rattle.sa_types.specs.Table.{put_in};
+ghost use Rattle.sa_subst.specs.Table.{put_in};
 ghost use Rattle.sa_subst.specs.Trees.{arm_with, case_arm_with, stmt_with, type_arm_with};
 
 use crate::expression::{exprs, optional_expr, optional_type, subst_expr};
-use sa_ast::{BranchArm, CaseArm, Local, NoMemory, Stmt, TypeArm};
-use sa_types::{Substitution, subst_with};
+use crate::{Substitution, subst_with};
+use failure::Failure;
+use sa_ast::{BranchArm, CaseArm, Local, Stmt, TypeArm};
 use sqlite_items::Items;
 use std::alloc::Global;
 
 /// The statement with the substitution made in each type that is written in it.
 #[tactic(auto, using(crate::proofs::TreeTypes::statements))]
 #[cycle(statement)]
-fn stmt(alloc: Global, s: &Stmt, by: &Substitution<'_>) -> Result<Stmt, NoMemory>
+fn stmt(alloc: Global, s: &Stmt, by: &Substitution<'_>) -> Result<Stmt, Failure>
     ensures { IfOk result (λ copy. copy ≡ stmt_with (put_in by.now) s.now) }
 {
     match s {
@@ -74,7 +75,7 @@ pub fn subst_stmts(
     alloc: Global,
     list: &[Stmt],
     by: &Substitution<'_>,
-) -> Result<Items<Stmt>, NoMemory>
+) -> Result<Items<Stmt>, Failure>
     ensures { IfOk result (λ copies. copies ≡ map (stmt_with (put_in by.now)) list.now) }
 {
     let mut copies = Items::new(alloc);
@@ -91,7 +92,7 @@ fn arms(
     alloc: Global,
     list: &[BranchArm],
     by: &Substitution<'_>,
-) -> Result<Items<BranchArm>, NoMemory>
+) -> Result<Items<BranchArm>, Failure>
     ensures { IfOk result (λ copies. copies ≡ map (arm_with (put_in by.now)) list.now) }
 {
     let mut copies = Items::new(alloc);
@@ -104,7 +105,7 @@ fn arms(
 /// The same in an arm of an `if`.
 #[tactic(auto, using(crate::proofs::TreeTypes::statements))]
 #[cycle(statement)]
-fn arm(alloc: Global, of: &BranchArm, by: &Substitution<'_>) -> Result<BranchArm, NoMemory>
+fn arm(alloc: Global, of: &BranchArm, by: &Substitution<'_>) -> Result<BranchArm, Failure>
     ensures { IfOk result (λ copy. copy ≡ arm_with (put_in by.now) of.now) }
 {
     let test = subst_expr(alloc, &of.test, by)?;
@@ -119,7 +120,7 @@ fn case_arms(
     alloc: Global,
     list: &[CaseArm],
     by: &Substitution<'_>,
-) -> Result<Items<CaseArm>, NoMemory>
+) -> Result<Items<CaseArm>, Failure>
     ensures { IfOk result (λ copies. copies ≡ map (case_arm_with (put_in by.now)) list.now) }
 {
     let mut copies = Items::new(alloc);
@@ -132,7 +133,7 @@ fn case_arms(
 /// The same in a branch of a `case`.
 #[tactic(auto, using(crate::proofs::TreeTypes::statements))]
 #[cycle(statement)]
-fn case_arm(alloc: Global, of: &CaseArm, by: &Substitution<'_>) -> Result<CaseArm, NoMemory>
+fn case_arm(alloc: Global, of: &CaseArm, by: &Substitution<'_>) -> Result<CaseArm, Failure>
     ensures { IfOk result (λ copy. copy ≡ case_arm_with (put_in by.now) of.now) }
 {
     let values = exprs(alloc, of.values.as_slice(), by)?;
@@ -147,7 +148,7 @@ fn type_arms(
     alloc: Global,
     list: &[TypeArm],
     by: &Substitution<'_>,
-) -> Result<Items<TypeArm>, NoMemory>
+) -> Result<Items<TypeArm>, Failure>
     ensures { IfOk result (λ copies. copies ≡ map (type_arm_with (put_in by.now)) list.now) }
 {
     let mut copies = Items::new(alloc);
@@ -160,7 +161,7 @@ fn type_arms(
 /// The same in a branch of a `typecase` or a `protect`.
 #[tactic(auto, using(crate::proofs::TreeTypes::statements))]
 #[cycle(statement)]
-fn type_arm(alloc: Global, of: &TypeArm, by: &Substitution<'_>) -> Result<TypeArm, NoMemory>
+fn type_arm(alloc: Global, of: &TypeArm, by: &Substitution<'_>) -> Result<TypeArm, Failure>
     ensures { IfOk result (λ copy. copy ≡ type_arm_with (put_in by.now) of.now) }
 {
     let ty = subst_with(alloc, &of.ty, by)?;
@@ -168,8 +169,8 @@ fn type_arm(alloc: Global, of: &TypeArm, by: &Substitution<'_>) -> Result<TypeAr
     Ok(TypeArm { ty, body })
 }
 
-/// The name once more.
-fn local(alloc: Global, of: &Local) -> Result<Local, NoMemory>
+/// A copy of the name.
+fn local(alloc: Global, of: &Local) -> Result<Local, Failure>
     ensures { IfOk result (λ copy. copy ≡ of.now) }
 {
     Ok(Local {
@@ -178,7 +179,7 @@ fn local(alloc: Global, of: &Local) -> Result<Local, NoMemory>
     })
 }
 
-fn locals(alloc: Global, list: &[Local]) -> Result<Items<Local>, NoMemory>
+fn locals(alloc: Global, list: &[Local]) -> Result<Items<Local>, Failure>
     ensures { IfOk result (λ copies. copies ≡ list.now) }
 {
     let mut copies = Items::new(alloc);

@@ -58,7 +58,7 @@ slice_get-map f [] k = refl
 slice_get-map f (x ∷ xs) zero = refl
 slice_get-map f (x ∷ xs) (suc k) = slice_get-map f xs k
 
--- where a mapped list has an item, the list has one that is mapped to it
+-- if a mapped list has an item, the list has one that is mapped to it
 mapped : {A B : Type 0} (f : A → B) (xs : List A) (k : ℕ) (y : B) → slice_get (map f xs) k ≡ Some y → (x : A) × (slice_get xs k ≡ Some x) × (f x ≡ y)
 mapped f [] k y h = absurd (none-some y h)
 mapped f (x ∷ xs) zero y h = (x, refl, some_items (f x) y h)
@@ -200,7 +200,7 @@ module _ (flat : FlatClass) (edges : SubtypeRelation) (are : AreNamesOf flat.cla
     );
   }
 
--- the same of what was made
+-- the same of what `SubtypeRelation::make` has built
 pub subtypes-of : (flat : FlatClass) (classes : List Class) (names : Names) (written l : List WrittenEdge) (lineage : Hierarchy) (edges : SubtypeRelation) → classes ≡ flat.classes → AreNamesOf classes names → seen written ≡ declared_edges (number_in names.places) classes → lineage.names ≡ names → AreTried (tables lineage) → l ≡ written → AreWritten (tables lineage) l → edges.lineage ≡ lineage → AreSubtypesOf flat edges
 subtypes-of flat classes names written l lineage edges e are all f tried g kept h =
     let same : names ≡ edges.lineage.names = sym (ap (λ (x : Hierarchy). x.names) h ∙ f) in

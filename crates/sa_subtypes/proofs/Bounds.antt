@@ -1,4 +1,4 @@
--- The test of two types is true exactly where the one is below the other in the normal form.
+-- The test of two types is true exactly if the one is a subtype of the other in the normal form.
 use Rattle.std.proofs.Common.{◌≡◌, Bool, true, false, true≢false, ◌||◌, ◌&&◌, cond, inl, inr, refl, sym, ap, subst, ◌∙◌}
 use Rattle.std.specs.Prelude.{◌⊎◌, ◌↔◌, not}
 use Rattle.std.specs.Cmp.{first_so, second_so}
@@ -77,7 +77,7 @@ module _ (Edge : BareTy → BareTy → Type 0) (named : (s t : BareTy) → Edge 
   denoted-apart s t false h k = inr (h, k)
   denoted-apart s t true h k = inr (k, h)
 
-  -- the types at a place of two bound types
+  -- the types at an index of two bound types
   place-sound : (s t : BareTy) (turned way : Bool) (other : Bool) → occurs_as tops climbs immutable s t other ≡ true → (other ≡ true → BelowIf way s t) → StandIf turned s t × BelowIf way s t
   place-sound s t turned way other h f = go (immutable s || immutable t) refl h
     where
@@ -170,7 +170,7 @@ module _ (Edge : BareTy → BareTy → Type 0) (named : (s t : BareTy) → Edge 
     sound-result no_result (gives t) turned h = absurd (true≢false (sym h))
     sound-result (gives s) no_result turned h = absurd (true≢false (sym h))
 
-  -- ---- a type is below itself
+  -- ---- a type is a subtype of itself
 
   climbs-self : (t : BareTy) (turned : Bool) → cond turned (climbs t t) (climbs t t) ≡ true
   climbs-self t turned = cond-both turned (climbs t t) (climbs t t) ((climbs-exact t t).1 here) ((climbs-exact t t).1 here)
@@ -202,7 +202,7 @@ module _ (Edge : BareTy → BareTy → Type 0) (named : (s t : BareTy) → Edge 
     result-self no_result turned = refl
     result-self (gives t) turned = cond-both (immutable t || immutable t) (same_type t t) _ (same_type-self t) (holds-self t turned)
 
-  -- ---- the test is true where the one is below the other
+  -- ---- the test is true if the one is a subtype of the other
 
   leaf-top : (s t : BareTy) (turned : Bool) → Chain Edge top (cond turned s t) → rises tops climbs immutable s t turned ≡ true
   leaf-top s t turned h = or_first (tops (cond turned s t)) (cond turned (climbs t s) (climbs s t)) ((tops-exact (cond turned s t)).1 h)

@@ -1,4 +1,5 @@
--- The normal form of the subtype relation: a type is below another where declared edges lead to it from the first or from `$OB`, or by the rule for bound types, whose arguments and results are below one another in the same way.
+-- The normal form of the subtype relation: a type is a subtype of another if declared edges lead to that from the first or from `$OB`, or
+-- by the rule for bound types, whose arguments and results are related in the same way.
 use Rattle.std.proofs.Common.{◌≡◌, Bool, inl, inr, refl, sym, subst}
 use Rattle.sa_ast.specs.declared.ty.Mode.TheVariants.{In, Out, Inout, Once}
 use Rattle.sa_ast.specs.Types.{BareTy, Named, Same, Rout, Iter, BareArgs, no_args, arg, BareResult, no_result, gives}

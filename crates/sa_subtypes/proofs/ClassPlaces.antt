@@ -1,11 +1,11 @@
--- The class of a name and its place: the first class with the name stands at the number of the name.
+-- The class of a name and its index: the first class with the name is at the number of the name.
 use Rattle.std.proofs.Common.{◌≡◌, ℕ, suc, ◌+◌, ◌<◌, Bool, true, false, cond, nat_eq, List, [], ◌∷◌, Some, length, slice_get, refl, sym, ap, ◌∙◌, arith}
 use Rattle.std.proofs.lemmas.Option.{none-some}
 use Rattle.std.proofs.lemmas.Slice.Eq.{bytes_eq-Decides}
 use Rattle.std.specs.Cmp.Lexicographic.{pointwise}
 use Rattle.sa_ast.specs.declared.class.Class.{Class}
 use Rattle.sa_ast.specs.declared.class.TypeParam.{TypeParam}
-use Rattle.sa_types.specs.Substitution.{place_of}
+use Rattle.sa_subst.specs.Substitution.{place_of}
 use Rattle.sa_unify.specs.Numbers.{class_place}
 use Rattle.sa_subtypes.specs.Subtypes.{class_named}
 
@@ -15,7 +15,7 @@ same_class d c e = cc
 some_number : (m n : ℕ) → Some m ≡ Some n → m ≡ n
 some_number m n e = cc
 
--- the class of a name stands at a place, whose number the name has where the list begins at place i
+-- the class of a name is at an index, which is the name's number in a list that begins at index i
 pub record IsAt (classes : List Class) (i : ℕ) (name : List ℕ) (c : Class) : Type 0 where
   pub index : ℕ
   pub place : class_place classes i name ≡ Some (i + index)
@@ -73,7 +73,7 @@ numbered-named classes name k h =
     let first : r.index ≡ k = omega (arith, some_number (0 + r.index) k (sym r.place ∙ h)) in
     (p.0, p.1, record { number = h; there = ap (slice_get classes) (sym first) ∙ r.there; named = r.named })
 
--- ---- the places of parameters
+-- ---- the indices of parameters
 
 pub place_of-within : (params : List TypeParam) (i : ℕ) (name : List ℕ) (k : ℕ) → place_of params i name ≡ Some k → k < i + length params
 place_of-within [] i name k h = absurd (none-some k h)

@@ -1,4 +1,4 @@
--- Each step of the walks that the code makes.
+-- Each step of the matching that the code does.
 use Rattle.std.proofs.Common.{◌≡◌, ℕ, zero, suc, ◌+◌, ◌-◌, ◌*◌, ◌<◌, ◌≤◌, Bool, true, false, ◌&&◌, cond, nat_eq, List, [], ◌∷◌, length, get_or, drop, map, Option, Some, None, refl, sym, ap, ◌∙◌, arith}
 use Rattle.std.specs.Prelude.{slice_get}
 use Rattle.std.specs.Option.{option_map, option_or}
@@ -77,7 +77,7 @@ end-none w e = ap is_end e
 
 pub ruleset ends = (fits-none, fits-both, end-before, end-following, end-past, end-none)
 
--- ---- what stands for a variable
+-- ---- the binding of a variable
 
 pub occurs-Some : (o : Option Item) (i j : Item) (r : Bool) → Some i ≡ o → r ≡ same_item i j → r ≡ occurs o j
 occurs-Some o i j r e h = h ∙ ap (λ x. occurs x j) e
@@ -205,7 +205,7 @@ module _ (t : Ty) (a : Node) (r : Bool) where
 
 pub ruleset heads = (head-Named, head-Same, head-Rout, head-Iter)
 
--- ---- how many nodes a bound type holds
+-- ---- how many child nodes a bound type has
 
 twice : (xs : List ModeTy) → count_args (all_bare_args xs) ≡ 2 * length xs
 twice [] = refl
@@ -278,7 +278,7 @@ module _ (visit : ℕ → Item → List Node → Seen) where
   unfolding walk_mode
   mode-another k nodes m = ap (met_then visit (a_mode k) past) m
 
-  -- ---- what a type holds
+  -- ---- the parts of a type
 
   pub inside-Named : (t : Ty) (name : List ℕ) (args s : List Ty) (pos : Pos) (nodes : List Node) (r : Seen) → t ≡ ty.Named name args pos → s ≡ args → r ≡ walk_all visit (all_bare s) nodes → r ≡ walk_inside visit (bare t) nodes
   unfolding walk_inside

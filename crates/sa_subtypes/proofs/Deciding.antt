@@ -1,4 +1,4 @@
--- The tests of the tables are true exactly where the tables say so.
+-- The tests of the tables are true exactly if the tables say so.
 use Rattle.std.proofs.Common.{◌≡◌, ◌≢◌, ◌⊎◌, inl, inr, ℕ, zero, suc, ◌+◌, ◌-◌, ◌<◌, ◌≤◌, Bool, true, false, true≢false, ◌||◌, ◌&&◌, nat_eq, List, [], ◌∷◌, length, Option, Some, None, slice_get, refl, sym, ap, subst, ◌∙◌, arith}
 use Rattle.std.specs.Prelude.{◌↔◌, not}
 use Rattle.std.specs.Cmp.{first_so, second_so}
@@ -57,7 +57,7 @@ terms-equal ts us c e = sym (read-spelled_all ts) ∙ ap (λ l. read_types l (co
 abbrev pub at_types : ℕ → List BareTy → At
 at_types class args = class_at class (length args) (spelled_all (bare_tys args))
 
--- ---- the places of a list
+-- ---- the indices of a list
 
 some-true : (test : ℕ → Bool) (from n : ℕ) → some_place test from n ≡ true → (k : ℕ) × (from ≤ k) × (k < from + n) × (test k ≡ true)
 unfolding some_place
@@ -121,7 +121,7 @@ module _ (w : Tables) (tried : AreTried w) where
 
     -- ---- a pair of a list
 
-    -- it leads from a class with these arguments to the class, or to one below it in its tree
+    -- it leads from a class with these arguments to the class, or to one that has it as an ancestor in its tree
     record IsBy (entry : Ancestor) : Type 0 where
       line : Line w.links entry.upper upper
       ends : (entry.upper ≡ upper) ⊎ (length above ≡ w.arity upper)
@@ -175,7 +175,7 @@ module _ (w : Tables) (tried : AreTried w) where
     is_by-all entry name count form h =
         both _ _ (both _ _ (either-all entry.upper upper (length above) (w.arity upper) h.ends) ((line-decides w.links linked entry.upper upper).1 h.line)) ((fits-instance (w.nodes entry.pair) name count form).1 (h.head, h.instance))
 
-    -- ---- the pair at a place
+    -- ---- the pair at an index
 
     record ByPlace (root place : ℕ) : Type 0 where
       entry : Ancestor

@@ -1,4 +1,6 @@
--- The edges of the relation and those that the classes declare as nodes are the same: each edge of the relation is spelled by the nodes of one that is declared, at terms for its variables; and the nodes of each that is declared, at any terms, are read as an edge of the relation.
+-- The edges of the relation and those that the classes declare as nodes are the same: each edge of the relation is spelled by the nodes of
+-- one that is declared, at terms for its variables; and the nodes of each that is declared, at any terms, are read as an edge of the
+-- relation.
 use Rattle.std.proofs.Common.{◌≡◌, inl, inr, ◌≢◌, true≢false, ℕ, zero, suc, ◌<◌, Bool, true, false, cond, nat_eq, List, [], ◌∷◌, ◌++◌, Option, Some, None, length, flat_map, slice_get, refl, sym, ap, subst, ◌∙◌, arith}
 use Rattle.std.proofs.lemmas.Bool.{eqb-true, eq-eqb}
 use Rattle.std.proofs.lemmas.Option.{none-some, slice_get_within}
@@ -7,8 +9,8 @@ use Rattle.sa_ast.specs.declared.class.FlatClass.{FlatClass}
 use Rattle.sa_ast.specs.declared.ty.Ty.{Ty}
 use Rattle.sa_ast.specs.Types.{BareTy, Named, Same, Rout, Iter, BareTys, no_types, type, bare, all_bare}
 use Rattle.sa_ast.proofs.BareTypes.{bare-Named}
-use Rattle.sa_types.specs.AtTypes.{own_type, at_instance}
-use Rattle.sa_types.specs.Substitution.{place_of}
+use Rattle.sa_subst.specs.AtTypes.{own_type, at_instance}
+use Rattle.sa_subst.specs.Substitution.{place_of}
 use Rattle.sa_unify.specs.declared.pattern.Node.{Node}
 use Rattle.sa_unify.specs.declared.pattern.Node.TheVariants as node
 use Rattle.sa_unify.specs.Terms.{following, Values, AreTerms, substitute}
@@ -30,7 +32,7 @@ same_number m n e = cc
 same_class : (d c : Class) → Some d ≡ Some c → d ≡ c
 same_class d c e = cc
 
--- ---- the places of the edges among all
+-- ---- the indices of the edges among all
 
 among-own : (number : Option ℕ) (k : ℕ) (e : EdgeNodes) (edges : List EdgeNodes) → number ≡ Some k → Among e edges → Among e (where_own number k edges)
 among-own number k e edges h a =
@@ -253,7 +255,8 @@ module _ (flat : FlatClass) where
 
   -- ---- each declared edge is one of the relation
 
-  -- the nodes of an edge, which are the list of so many terms and a term, are read as an edge of the relation between types whose classes have the numbers of the edge
+  -- the nodes of an edge, which are the list of n terms and a term, are read as an edge of the relation between types whose classes
+  -- have the numbers of the edge
   pub record IsReadAs (e : EdgeNodes) (n : ℕ) (l x : List Node) : Type 0 where
     pub lower : Class
     pub lower_there : slice_get flat.classes e.0 ≡ Some lower

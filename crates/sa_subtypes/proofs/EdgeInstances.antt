@@ -1,4 +1,5 @@
--- An instance of the nodes of a declared edge between two classes, with the arguments of both, is an edge of the relation between the types that these are; and each edge of the relation is such an instance.
+-- An instance of the nodes of a declared edge between two classes, with the arguments of both, is an edge of the relation between the
+-- types that these are; and each edge of the relation is such an instance.
 use Rattle.std.proofs.Common.{◌≡◌, ℕ, List, [], ◌∷◌, ◌++◌, Some, slice_get, refl, sym, ap, subst, ◌∙◌}
 use Rattle.sa_ast.specs.declared.class.Class.{Class}
 use Rattle.sa_ast.specs.declared.class.FlatClass.{FlatClass}
@@ -31,7 +32,7 @@ module _ (flat : FlatClass) where
     pub terms : AreTerms values
     pub to : substitute values edge.2 ≡ instance
 
-  -- the classes with these numbers have an edge at these arguments, where the upper one has this name
+  -- the classes with these numbers have an edge at these arguments, and the supertype's class has this name
   pub record IsEdgeAt (lower upper : ℕ) (name : List ℕ) (args above : BareTys) : Type 0 where
     pub lower_class : Class
     pub lower_there : slice_get flat.classes lower ≡ Some lower_class

@@ -1,4 +1,5 @@
--- A type of a header at an instance: without positions, the type in which types are put in place of the parameters and of SAME is the type at the instance.
+-- A type of a header at an instance: without positions, the type after the substitution of types for the parameters and SAME is the type
+-- at the instance.
 use Rattle.std.proofs.Common.{◌≡◌, ℕ, zero, suc, ◌<◌, List, [], ◌∷◌, Option, None, Some, length, map, slice_get, option_map, refl, sym, ap, subst, ◌∙◌, arith}
 use Rattle.std.proofs.Math.Path.{fun_ext}
 use Rattle.std.specs.Option.{option_and_then}
@@ -12,10 +13,10 @@ use Rattle.sa_ast.specs.declared.ty.Ty.TheVariants as ty
 use Rattle.sa_ast.specs.declared.ty.Ty.TheViews.{roll-Ty}
 use Rattle.sa_ast.specs.Types.{BareTy, Named, Rout, Iter, type, arg, gives, bare, bare_arg, all_bare, all_bare_args, option_bare}
 use Rattle.sa_ast.proofs.BareTypes.{bare-Named, bare-Same, bare-Rout, bare-Iter, bare_arg-parts, by_variants}
-use Rattle.sa_types.specs.Substitution.{place_of, given_for, placed, named_alone, named, substituted, substituted_arg}
-use Rattle.sa_types.proofs.Substituting.{placed-Named, placed-Same, placed-Rout, placed-Iter, substituted-Named, substituted-Same, substituted-Rout, substituted-Iter, substituted_arg-parts}
+use Rattle.sa_subst.specs.Substitution.{place_of, given_for, placed, named_alone, named, substituted, substituted_arg}
+use Rattle.sa_subst.proofs.Substituting.{placed-Named, placed-Same, placed-Rout, placed-Iter, substituted-Named, substituted-Same, substituted-Rout, substituted-Iter, substituted_arg-parts}
 use Rattle.sa_unify.specs.Spelled.{occurrence, instance, instance_all, instance_args, instance_result}
-use Rattle.sa_types.specs.AtTypes.{own_type, at_instance}
+use Rattle.sa_subst.specs.AtTypes.{own_type, at_instance}
 use Rattle.sa_unify.proofs.Owns.{type_at}
 use Rattle.sa_unify.proofs.Patterns.{type_in}
 
@@ -51,7 +52,7 @@ bare-placed pos =
     (λ args of old. ap bare (placed-Rout args of old pos) ∙ bare-Rout args of pos ∙ sym (bare-Rout args of old))
     (λ args of old. ap bare (placed-Iter args of old pos) ∙ bare-Iter args of pos ∙ sym (bare-Iter args of old))
 
--- ---- types put in place of parameters and SAME
+-- ---- types substituted for parameters and SAME
 
 module _ (value : List ℕ → Option Ty) (same : Ty) where
   abbrev bare_value : List ℕ → Option BareTy

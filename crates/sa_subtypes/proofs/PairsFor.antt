@@ -1,4 +1,4 @@
--- The nodes of a pair fit two types exactly where terms for its variables make it the pair of the two types.
+-- The nodes of a pair match two types exactly if terms for its variables make it the pair of the two types.
 use Rattle.std.proofs.Common.{◌≡◌, ℕ, ◌+◌, List, [], ◌∷◌, ◌++◌, Some, sym, ap, subst, ◌∙◌}
 use Rattle.std.specs.Prelude.{◌↔◌}
 use Rattle.std.proofs.lemmas.List.{append_cancel_right}
@@ -18,7 +18,7 @@ pair_for lower head upper = node.List (count_types lower) ∷ spelled_all lower 
 abbrev pub BecomesPair : List Node → BareTys → BareTys → Type 0
 BecomesPair nodes lower upper = (head : List ℕ) × (values : Values) × AreTerms values × (substitute values nodes ≡ pair_for lower head upper)
 
--- what is behind equally many terms of one list is the same
+-- what is after equally many terms of one list is the same
 rest-equal : (first other rest more : List Node) (n : ℕ) → following first n ≡ Some [] → following other n ≡ Some [] → first ++ rest ≡ other ++ more → (first ≡ other) × (rest ≡ more)
 rest-equal first other rest more n h k e =
     let left : following (first ++ rest) (n + 0) ≡ Some rest = following-append first rest n 0 h ∙ behind_none rest in
@@ -40,7 +40,7 @@ becomes nodes lower upper (name, below, above, values, is, terms, first, second)
     substitute-append values below last ∙ ap (λ l. l ++ substitute values last) first ∙ ap (λ l. spelled_all lower ++ (node.Class name (count_types upper) ∷ l)) second in
     (name, values, terms, ap (substitute values) is ∙ ap (λ l. node.List (count_types lower) ∷ l) whole)
 
--- where the nodes are those of a pair
+-- if the nodes are those of a pair
 module _ (nodes : List Node) (name : List ℕ) (count : ℕ) (below : List Node) (m : ℕ) (above : List Node) (is : nodes ≡ node.List count ∷ below ++ node.Class name m ∷ above) (given : following below count ≡ Some []) where
   fits-as : (lower upper : BareTys) → BecomesPair nodes lower upper → IsPairFor nodes lower upper
   fits-as lower upper (head, values, terms, e) =

@@ -1,4 +1,4 @@
--- Nodes fit two types exactly where they are those of a pair whose arguments are the types' with terms for the variables.
+-- Nodes match two types exactly if they are those of a pair whose arguments are the types' with terms for the variables.
 use Rattle.std.proofs.Common.{◌≡◌, ℕ, zero, suc, ◌+◌, Bool, true, false, true≢false, ◌||◌, ◌&&◌, nat_eq, List, [], ◌∷◌, ◌++◌, length, Option, None, Some, refl, sym, ap, subst, ◌∙◌, arith, inl, inr}
 use Rattle.std.specs.Prelude.{◌⊎◌, ◌↔◌, slice_get}
 use Rattle.std.specs.Cmp.{first_so, second_so}
@@ -17,9 +17,9 @@ use Rattle.sa_subtypes.proofs.TypeTerms.{cons-head, item_head, item_inside, term
 use Rattle.sa_subtypes.proofs.Walks.{past-equal, unlike-past, same_mode-self, same_mode-true, head-unbound, IsCut, cut-all, Outcome, outcome-all}
 use Rattle.sa_unify.proofs.Terms.{substitute-same, terms-equal}
 
--- ---- what stands for a variable as a term
+-- ---- the binding of a variable as a term
 
--- a variable for which nothing stands is left
+-- a variable without a binding is left
 abbrev pub item_terms : ℕ → Option Item → List Node
 item_terms number None = node.Variable number ∷ []
 item_terms number (Some i) = term_of i
@@ -46,7 +46,7 @@ same_item-true (a_type t) (a_mode m) h = absurd (true≢false (sym h))
 same_item-true (a_mode m) (a_type t) h = absurd (true≢false (sym h))
 same_item-true (a_mode m) (a_mode n) h = ap a_mode (same_mode-true m n h)
 
--- ---- the walk that compares
+-- ---- matching that compares
 
 comparing-past : (value : ℕ → Option Item) (number : ℕ) (i : Item) (rest next : List Node) → comparing value number i rest ≡ past next → (next ≡ rest) × (terms_from value number ≡ term_of i)
 unfolding comparing
@@ -60,7 +60,7 @@ comparing-past value number i rest next h = go (value number) h
     go None k = absurd (unlike-past next k)
     go (Some j) k = test j (same_item j i) refl k
 
--- what is passed becomes the types with what stands for the variables
+-- what is passed becomes the types with the bindings of the variables
 fits-cut : (value : ℕ → Option Item) (ts : BareTys) (nodes rest : List Node) → walk_all (comparing value) ts nodes ≡ past rest → IsCut (terms_from value) nodes (spelled_all ts) rest
 fits-cut value ts nodes rest h = cut-all (comparing value) (terms_from value) (comparing-past value) ts nodes rest h
 
@@ -87,14 +87,14 @@ fits-passes : (value : ℕ → Option Item) (ts : BareTys) (first rest : List No
 fits-passes value ts first rest e =
     outcome-past first rest (walk_all (comparing value) ts (first ++ rest)) (outcome-all (comparing value) (terms_from value) (terms_from-terms value) (λ _. Unit {0}) (λ _. ⊥) (comparing-passes value) ts first rest e)
 
--- ---- the walk that looks for nothing
+-- ---- matching that searches for nothing
 
 skips : (values : Values) → AreTerms values → (ts : BareTys) (first rest : List Node) → substitute values first ≡ spelled_all ts → walk_all (seeking None) ts (first ++ rest) ≡ past rest
 unfolding seeking
 skips values terms ts first rest e =
     outcome-past first rest (walk_all (seeking None) ts (first ++ rest)) (outcome-all (seeking None) values terms (λ _. Unit {0}) (λ _. ⊥) (λ number i next k. inl (refl, tt)) ts first rest e)
 
--- ---- the walk that looks for a variable
+-- ---- matching that searches for a variable
 
 not_itself : (number : ℕ) → nat_eq number number ≡ false → ⊥
 not_itself number h = true≢false (sym (eq-eqb number number refl) ∙ h)
@@ -108,7 +108,7 @@ module _ (values : Values) (terms : AreTerms values) (number : ℕ) where
       go true e = inr (i, refl, sym h ∙ ap values (eqb-true other number e))
       go false e = inl (refl, λ same. not_itself number (subst (λ k. nat_eq k number ≡ false) same e))
 
-  -- an item is found whose term is the variable's, or none, and then the variable doesn't come
+  -- an item is found whose term is the variable's, or none, and then the variable doesn't occur
   first-found : (ts : BareTys) (first rest : List Node) → substitute values first ≡ spelled_all ts → ((i : Item) × (first_in number ts (first ++ rest) ≡ Some i) × (term_of i ≡ values number)) ⊎ ((first_in number ts (first ++ rest) ≡ None) × (comes number first ≡ true → ⊥))
   unfolding first_in
   first-found ts first rest e = go (walk_all (seeking (Some number)) ts (first ++ rest)) (outcome-all (seeking (Some number)) values terms (λ other. other ≡ number → ⊥) (λ j. term_of j ≡ values number) seeking-passes ts first rest e)
@@ -124,7 +124,7 @@ is_number-true number (node.Variable other) h = ap node.Variable (eqb-true other
 is_number-true number _ h = cc
 
 module _ (values : Values) (terms : AreTerms values) where
-  -- the first variable stands for the first type
+  -- the first variable is bound to the first type
   plain-step : (from : ℕ) (t : BareTy) (ls : List BareTy) (below rest : List Node) → counts_up from (suc (length ls)) (below ++ rest) ≡ true → substitute values below ≡ spelled t ++ spelled_all (bare_tys ls) → (more : List Node) × (below ≡ node.Variable from ∷ more) × (counts_up (suc from) (length ls) (more ++ rest) ≡ true) × (values from ≡ spelled t) × (substitute values more ≡ spelled_all (bare_tys ls))
   unfolding counts_up
   plain-step from t ls [] rest h e = absurd (not_empty t (spelled_all (bare_tys ls)) (sym e))
@@ -159,13 +159,13 @@ module _ (values : Values) (terms : AreTerms values) where
           let is : number ≡ suc from + found_more.0 = found_more.2 in
           (suc found_more.0, found_more.1, omega (arith, is), found_more.3)
 
--- ---- what stands for each variable is what it becomes
+-- ---- the binding of each variable is what it becomes
 
 module _ (lower upper : List BareTy) (values : Values) (terms : AreTerms values) (below rest above : List Node) (first : substitute values below ≡ spelled_all (bare_tys lower)) (second : substitute values above ≡ spelled_all (bare_tys upper)) where
   IsBound : Option Item → ℕ → Type 0
   IsBound o number = (i : Item) × (o ≡ Some i) × (term_of i ≡ values number)
 
-  -- below
+  -- in the subtype's nodes
   below-value : (plain : Bool) → counts_up 0 (length lower) (below ++ rest) ≡ plain → (number : ℕ) → ((i : Item) × (value_below plain lower (below ++ rest) number ≡ Some i) × (term_of i ≡ values number)) ⊎ ((value_below plain lower (below ++ rest) number ≡ None) × (comes number below ≡ true → ⊥))
   below-value false h number = first-found values terms number (bare_tys lower) below rest first
   below-value true h number = go (slice_get lower number) refl
@@ -241,7 +241,7 @@ module _ (lower upper : List BareTy) where
       ap (upper_fits lower upper (below ++ rest)) (skips values terms (bare_tys lower) below rest first) ∙ and_true (nat_eq m (length upper)) (both_fit (value_from (counts_up 0 (length lower) (below ++ rest)) lower upper (below ++ rest) above) lower upper (below ++ rest) above) (eq-eqb m (length upper) (counts-length upper)) (both-fit lower upper values terms below rest above first second) in
       ap (pair_fits lower upper) is ∙ and_true (nat_eq n (length lower)) (upper_fits lower upper (below ++ rest) (walk_all (seeking None) (bare_tys lower) (below ++ rest))) (eq-eqb n (length lower) (counts-length lower)) inner
 
-  -- what is_past and is_end say
+  -- what `is_past` and `is_end` say
   past-true : (r : Seen) → is_past r ≡ true → (rest : List Node) × (r ≡ past rest)
   past-true (past rest) h = (rest, refl)
   past-true (found i) h = absurd (true≢false (sym h))

@@ -1,11 +1,11 @@
--- What the edges of a program are refused by, from what its tables say.
+-- The refusals of a program's edges, from what its tables say.
 use Rattle.std.proofs.Common.{◌≡◌, ℕ, List, [], ◌∷◌, None, Some, map, slice_get, refl, sym, ap, subst, ◌∙◌, inl, inr}
 use Rattle.std.proofs.Math.Path.{fun_ext}
 use Rattle.std.specs.List.{Contains}
 use Rattle.sa_ast.specs.declared.class.FlatClass.{FlatClass}
 use Rattle.sa_ast.specs.declared.pos.Pos.{Pos}
 use Rattle.sa_ast.specs.declared.refusal.Rejection.{Rejection}
-use Rattle.sa_ast.specs.declared.refusal.Rejection.TheVariants.{NoMemory, Refused}
+use Rattle.sa_ast.specs.declared.refusal.Rejection.TheVariants.{Failed, Refused}
 use Rattle.sa_ast.specs.declared.refusal.Refusal.{Refusal}
 use Rattle.sa_ast.specs.declared.rule.Rule.TheVariants as rule
 use Rattle.sa_unify.specs.declared.names.Names.{Names}
@@ -54,7 +54,7 @@ module _ (flat : FlatClass) (names : Names) (are : AreNamesOf flat.classes names
 
     pub refuses-cycle : (fault : Rejection) → None ≡ slice_get (misplaced (kind_of_name names) flat.classes) 0 → RefusesCycle (IsBetween written) flat.classes fault → RefusesEdges flat fault
     refuses-cycle (Refused refusal) none cycle = inr (none_misplaced none, first_along (IsBetween written) (ClassEdge flat) forth back flat.classes refusal cycle)
-    refuses-cycle NoMemory none cycle = tt
+    refuses-cycle (Failed why) none cycle = tt
 
     pub edges-right : None ≡ slice_get (misplaced (kind_of_name names) flat.classes) 0 → HasNoCycle (IsBetween written) flat.classes → AreEdgesRight flat
     edges-right none acyclic = record { supertypes = none_misplaced none; acyclic = none_along (IsBetween written) (ClassEdge flat) forth back flat.classes acyclic }

@@ -1,4 +1,5 @@
--- The edges of the tables are the edges of the relation: one or more edges of the tables lead from a class at the terms of its arguments to another exactly where edges of the relation lead from type to type.
+-- The edges of the tables are the edges of the relation: one or more edges of the tables lead from a class at the terms of its arguments
+-- to another exactly if edges of the relation lead from type to type.
 use Rattle.std.proofs.Common.{◌≡◌, ◌⊎◌, inl, inr, ℕ, List, Some, slice_get, refl, sym, ap, subst, ◌∙◌}
 use Rattle.sa_ast.specs.declared.class.Class.{Class}
 use Rattle.sa_ast.specs.declared.class.FlatClass.{FlatClass}

@@ -1,4 +1,5 @@
--- Chains of declared edges between terms. Edges of the relation lead from one type to another where declared edges lead from the term of the one to that of the other: whatever the terms between are, they are read as types.
+-- Chains of declared edges between terms. Edges of the relation lead from one type to another if declared edges lead from the term of the
+-- one to that of the other: whatever the terms between are, they are read as types.
 use Rattle.std.proofs.Common.{◌≡◌, ℕ, List, [], ◌∷◌, ◌++◌, Some, slice_get, sym, ap, subst, ◌∙◌}
 use Rattle.sa_ast.specs.declared.class.Class.{Class}
 use Rattle.sa_ast.specs.declared.class.FlatClass.{FlatClass}
@@ -25,7 +26,7 @@ same_class : (d c : Class) → Some d ≡ Some c → d ≡ c
 same_class d c e = cc
 
 module _ (flat : FlatClass) where
-  -- the nodes of a declared edge at terms, for a lower term of the edge's lower class
+  -- the nodes of a declared edge at terms, for a term of the edge's subtype
   pub record IsTermEdge (w x : List Node) : Type 0 where
     pub edge : EdgeNodes
     pub among : Among edge (all_edges flat)
@@ -75,7 +76,7 @@ module _ (flat : FlatClass) where
   terms-chain at_end = here
   terms-chain (by_edge {w = w} {x = x} e h) = step (term-edge w x e) (terms-chain h)
 
-  -- edges lead from one type to another exactly where declared edges lead from term to term
+  -- edges lead from one type to another exactly if declared edges lead from term to term
   pub spelled-chain : (s t : BareTy) → TermChain IsTermEdge (spelled s) (spelled t) → Chain (IsEdge flat) s t
   spelled-chain s t h =
       subst (λ u. Chain (IsEdge flat) u t) (read-spelled s) (subst (λ u. Chain (IsEdge flat) (read_type (spelled s)) u) (read-spelled t) (terms-chain h))

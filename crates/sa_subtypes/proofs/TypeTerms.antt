@@ -26,7 +26,7 @@ cons-tail a b l m e = cc
 some_cons : (a : Node) (l : List Node) → Some (a ∷ l) ≡ Some [] → ⊥
 some_cons a l e = let none : a ∷ l ≡ [] = cc in no_cons a l none
 
--- ---- a type's first node and what is behind it
+-- ---- a type's first node and what is after it
 
 abbrev pub head_of : BareTy → Node
 head_of (Named name args) = node.Class name (count_types args)
@@ -178,7 +178,7 @@ item-equal (a_mode m) (a_mode n) e = ap a_mode (passed-equal m n (cons-head (nod
 
 -- ---- terms substituted for variables that are those of given terms
 
--- the nodes behind so many terms are those behind some of them and the others
+-- the nodes after n terms are those after some of them and the others
 following-parts : (l r : List Node) (j k : ℕ) → following l (j + k) ≡ Some r → (m : List Node) × (following l j ≡ Some m) × (following m k ≡ Some r)
 following-parts l r zero k h = let e : zero + k ≡ k = omega arith in (l, behind_none l, ap (following l) (sym e) ∙ h)
 following-parts [] r (suc j) k h = let e : suc j + k ≡ suc (j + k) = omega arith in absurd (none-some r (ap (following []) (sym e) ∙ h))

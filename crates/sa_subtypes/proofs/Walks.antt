@@ -1,4 +1,5 @@
--- A walk over nodes beside types: it comes behind the nodes that become the types with terms for variables, or to an item that is looked for.
+-- Matching of nodes against types: it ends after the nodes that become the types with terms for variables, or at an item that is
+-- searched for.
 use Rattle.std.proofs.Common.{◌≡◌, ℕ, ◌+◌, Bool, true, false, true≢false, ◌||◌, ◌&&◌, nat_eq, List, [], ◌∷◌, ◌++◌, Some, refl, sym, ap, subst, ◌∙◌, append_assoc, inl, inr}
 use Rattle.std.specs.Prelude.{◌⊎◌}
 use Rattle.std.specs.Cmp.{first_so, second_so}
@@ -128,7 +129,7 @@ meets-cases i (node.Iter count ∷ rest) = inr (headed-cases i (node.Iter count)
 meets-cases i (node.Passed mode ∷ rest) = inr (headed-cases i (node.Passed mode) rest (is_head i (node.Passed mode)) refl)
 meets-cases i (node.List count ∷ rest) = inr (headed-cases i (node.List count) rest (is_head i (node.List count)) refl)
 
--- ---- what a walk has passed becomes the types
+-- ---- what a match has passed becomes the types
 
 -- the nodes begin with some that become the term
 abbrev pub IsCut : Values → List Node → List Node → List Node → Type 0

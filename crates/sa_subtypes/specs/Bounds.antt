@@ -1,28 +1,28 @@
--- Whether a type is below another, where it is known what is above every type and what declared edges lead to: the rule for bound types.
+-- Whether a type is a subtype of another, from the supertypes of every type and what declared edges lead to: the rule for bound types.
 use Rattle.std.specs.Prelude.{Bool, true, false, cond, not, ◌&&◌, ◌||◌}
 use Rattle.sa_ast.specs.declared.ty.Mode.{Mode}
 use Rattle.sa_ast.specs.declared.ty.Mode.TheVariants.{In, Out, Inout, Once}
 use Rattle.sa_ast.specs.TypeEquality.{same_mode, same_type}
 use Rattle.sa_ast.specs.Types.{BareTy, Rout, Iter, BareArgs, no_args, arg, BareResult, no_result, gives}
 
--- by the mode of an argument: the types are the same, the one goes as the bound types go, or it goes the other way round
+-- by the mode of an argument: the types are the same, or covariant, or contravariant
 abbrev pub goes_by : Mode → Bool → Bool → Bool → Bool
 goes_by In same forth back = back
 goes_by Once same forth back = back
 goes_by Inout same forth back = same
 goes_by Out same forth back = forth
 
--- `tops` are above every type, `climbs` says what edges lead to, and these types are immutable classes
+-- `tops` are supertypes of every type, `climbs` says what edges lead to, and these types are immutable classes
 module _ (tops : BareTy → Bool) (climbs : BareTy → BareTy → Bool) (immutable : BareTy → Bool) where
-  -- the upper one of the two is above every type, or edges lead to it; turned, the first is the upper one
+  -- the second type is a supertype of every type, or edges lead to it; reversed, the first
   abbrev pub rises : BareTy → BareTy → Bool → Bool
   rises s t turned = tops (cond turned s t) || cond turned (climbs t s) (climbs s t)
 
-  -- at a place of two bound types: where one is an immutable class, they are the same
+  -- at an index of two bound types: if one is an immutable class, they are the same
   abbrev pub occurs_as : BareTy → BareTy → Bool → Bool
   occurs_as s t otherwise = cond (immutable s || immutable t) (same_type s t) otherwise
 
-  -- the first type is below the second, or, turned, the second below the first
+  -- the first type is a subtype of the second, or, reversed, the second of the first
   unfoldable mutual
     pub holds : BareTy → BareTy → Bool → Bool
     holds (Rout xs a) (Rout ys b) turned = tops (cond turned (Rout xs a) (Rout ys b)) || (args_hold xs ys turned && result_holds a b turned)

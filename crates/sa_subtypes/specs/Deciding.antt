@@ -10,13 +10,13 @@ use Rattle.sa_subtypes.specs.Questions.{pair_fits}
 
 -- ---- the lists
 
--- whether a number that is tried so is among so many from one on
+-- whether one of n numbers from one on passes the test
 unfoldable pub some_place : (ℕ → Bool) → ℕ → ℕ → Bool
 some_place test from zero = false
 some_place test from (suc n) = test from || some_place test (suc from) n
 
 module _ (w : Tables) where
-  -- whether a class is above another in its tree, at the same arguments
+  -- whether a class is an ancestor of another in its tree, at the same arguments
   unfoldable pub in_tree : ℕ → List BareTy → ℕ → List BareTy → Bool
   in_tree lower args upper above =
       not (nat_eq lower upper)
@@ -24,7 +24,7 @@ module _ (w : Tables) where
       && same_types (bare_tys args) (bare_tys above)
       && in_line w.links lower upper
 
-  -- whether a pair leads from a class with these arguments to a class, or to one below it in its tree
+  -- whether a pair leads from a class with these arguments to a class, or to one that has it as an ancestor in its tree
   unfoldable pub is_by : Ancestor → List BareTy → ℕ → List BareTy → Bool
   is_by entry args upper above =
       (nat_eq entry.upper upper || nat_eq (length above) (w.arity upper))
@@ -35,7 +35,7 @@ module _ (w : Tables) where
   entry_by root args upper above None = false
   entry_by root args upper above (Some entry) = nat_eq entry.class root && is_by entry args upper above
 
-  -- the same of the pair at a place
+  -- the same of the pair at an index
   unfoldable pub place_by : ℕ → List BareTy → ℕ → List BareTy → ℕ → Bool
   place_by root args upper above place = entry_by root args upper above (slice_get w.above place)
 
@@ -47,7 +47,7 @@ module _ (w : Tables) where
   unfoldable pub list_by : ℕ → List BareTy → ℕ → List BareTy → Bool
   list_by root args upper above = range_by root args upper above (slice_get w.lists root)
 
-  -- whether a pair of the list of the class's root does, where the class is the root or has as many arguments as parameters
+  -- whether a pair of the list of the class's root does, if the class is the root or has as many arguments as parameters
   abbrev pub link_by : ℕ → List BareTy → ℕ → List BareTy → Option ParentLink → Bool
   link_by lower args upper above None = false
   link_by lower args upper above (Some link) =
@@ -60,7 +60,7 @@ module _ (w : Tables) where
   unfoldable pub found_in : ℕ → List BareTy → ℕ → List BareTy → Bool
   found_in lower args upper above = in_tree lower args upper above || in_list lower args upper above
 
-  -- the same where a name may be that of no class
+  -- the same if a name may be that of no class
   abbrev pub found_between : Option ℕ → List BareTy → Option ℕ → List BareTy → Bool
   found_between (Some lower) args (Some upper) above = found_in lower args upper above
   found_between (Some lower) args None above = false

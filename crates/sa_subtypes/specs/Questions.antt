@@ -1,5 +1,5 @@
--- How the nodes of a pair are compared with the arguments of two types:
--- what stands for a variable, and whether each node is that of the types.
+-- How the nodes of a pair are matched against the arguments of two types:
+-- the binding of a variable, and whether each node is that of the types.
 use Rattle.std.specs.Prelude.{◌≡◌, ℕ, zero, suc, ◌+◌, Bool, true, false, cond, ◌&&◌, nat_eq, List}
 use Rattle.std.specs.Prelude.{[], ◌∷◌, ◌++◌, length, map, drop, slice_get, Option, Some, None}
 use Rattle.std.specs.Option.{option_map, option_or}
@@ -78,7 +78,7 @@ abbrev pub is_head : Item → Node → Bool
 is_head (a_type t) a = is_type_head t a
 is_head (a_mode m) a = is_passed m a
 
--- what nodes begin with, beside an item: a variable, or the node with which the item begins, and the nodes behind it
+-- the match of the head of nodes against an item: a variable, or the node with which the item begins, and the nodes after it
 pub data Met : Type 0 where
   a_variable : ℕ → List Node → Met
   a_head : List Node → Met
@@ -100,9 +100,9 @@ unfoldable pub meets : Item → List Node → Met
 meets i [] = another
 meets i (a ∷ rest) = node_meets i rest a
 
--- ---- a walk over nodes, beside types
+-- ---- matching nodes against types
 
--- what it has come to: an item that was looked for, the nodes behind the types, or nodes that are not like the types
+-- the result so far: an item that was searched for, the nodes after the types, or a mismatch
 pub data Seen : Type 0 where
   found : Item → Seen
   past : List Node → Seen
@@ -113,7 +113,7 @@ seen_then (found i) next = found i
 seen_then (past rest) next = next rest
 seen_then unlike next = unlike
 
--- at a variable it does what `visit` says, beside the item there
+-- at a variable it does what `visit` says of the item there
 module _ (visit : ℕ → Item → List Node → Seen) where
   abbrev pub met_then : Item → (List Node → Seen) → Met → Seen
   met_then i inner (a_variable number rest) = visit number i rest
@@ -151,13 +151,13 @@ module _ (visit : ℕ → Item → List Node → Seen) where
   unfoldable pub walk_arg : Mode × BareTy → List Node → Seen
   walk_arg a nodes = seen_then (walk_mode a.0 nodes) (λ next. walk a.1 next)
 
--- ---- what stands for a variable
+-- ---- the binding of a variable
 
 abbrev pub sought : Bool → Item → List Node → Seen
 sought true i rest = found i
 sought false i rest = past rest
 
--- looks for the item at which a variable comes first; with no variable it goes past each
+-- searches for the item that the first occurrence of a variable matches; with no variable it goes past each
 abbrev pub is_wanted : Option ℕ → ℕ → Bool
 is_wanted None other = false
 is_wanted (Some number) other = nat_eq other number
@@ -177,17 +177,17 @@ abbrev pub is_number : ℕ → Node → Bool
 is_number from (node.Variable number) = nat_eq number from
 is_number from _ = false
 
--- whether nodes begin with so many variables, numbered in order
+-- whether nodes begin with n variables, numbered in order
 unfoldable pub counts_up : ℕ → ℕ → List Node → Bool
 counts_up from zero nodes = true
 counts_up from (suc n) [] = false
 counts_up from (suc n) (a ∷ nodes) = is_number from a && counts_up (suc from) n nodes
 
--- what stands for a variable in the first nodes, beside the types below; where the nodes are plain variables, it is the type at its number
+-- the binding of a variable in the first nodes, matched against these types; if the nodes are plain variables, it is the type at its number
 abbrev pub value_below : Bool → List BareTy → List Node → ℕ → Option Item
 value_below plain lower nodes number = cond plain (option_map a_type (slice_get lower number)) (first_in number (bare_tys lower) nodes)
 
--- what stands for a variable: the first item beside it, below or else above
+-- the binding of a variable: the item that its first occurrence matches, in the subtype's nodes or else in the supertype's
 unfoldable pub value_from : Bool → List BareTy → List BareTy → List Node → List Node → ℕ → Option Item
 value_from plain lower upper nodes above number = option_or (value_below plain lower nodes number) (first_in number (bare_tys upper) above)
 
@@ -210,7 +210,7 @@ abbrev pub passed_if : Bool → List Node → Seen
 passed_if true rest = past rest
 passed_if false rest = unlike
 
--- goes past a variable where the item is what stands for it
+-- goes past a variable if the item is its binding
 unfoldable pub comparing : (ℕ → Option Item) → ℕ → Item → List Node → Seen
 comparing value number i rest = passed_if (occurs (value number) i) rest
 
@@ -235,7 +235,7 @@ class_fits lower upper nodes above (node.Class name count) =
     nat_eq count (length upper) && both_fit (value_from (counts_up 0 (length lower) nodes) lower upper nodes above) lower upper nodes above
 class_fits lower upper nodes above _ = false
 
--- the nodes behind the arguments of the lower type are an upper type that fits
+-- the nodes after the arguments of the subtype are a supertype that matches
 unfoldable pub upper_fits : List BareTy → List BareTy → List Node → Seen → Bool
 upper_fits lower upper nodes (past []) = false
 upper_fits lower upper nodes (past (a ∷ above)) = class_fits lower upper nodes above a

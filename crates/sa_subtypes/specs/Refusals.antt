@@ -1,11 +1,11 @@
--- What the classes of a program are refused by for the supertypes that they declare.
+-- The refusals of a program's classes for the supertypes that they declare.
 use Rattle.std.specs.Prelude.{◌≡◌, ◌⊎◌, ⊤, ℕ, List, [], Option, Some, Contains, map, slice_get}
 use Rattle.std.specs.Option.{option_map}
 use Rattle.sa_ast.specs.declared.class.FlatClass.{FlatClass}
 use Rattle.sa_ast.specs.declared.class.ClassKind.{ClassKind}
 use Rattle.sa_ast.specs.declared.pos.Pos.{Pos}
 use Rattle.sa_ast.specs.declared.refusal.Rejection.{Rejection}
-use Rattle.sa_ast.specs.declared.refusal.Rejection.TheVariants.{NoMemory, Refused}
+use Rattle.sa_ast.specs.declared.refusal.Rejection.TheVariants.{Failed, Refused}
 use Rattle.sa_ast.specs.declared.refusal.Refusal.{Refusal}
 use Rattle.sa_ast.specs.declared.rule.Rule.TheVariants as rule
 use Rattle.sa_unify.specs.DeclaredEdges.{EdgeNodes, declared_edges}
@@ -22,7 +22,7 @@ module _ (flat : FlatClass) where
   abbrev pub kind_named : List ℕ → Option ClassKind
   kind_named name = option_map (λ c. c.kind) (class_named flat.classes name)
 
-  -- the positions of the types after `<` that are no abstract classes, in text order
+  -- the positions of the types after `<` that are no abstract classes, in source order
   abbrev pub misplaced_in : List Pos
   misplaced_in = misplaced kind_named flat.classes
 
@@ -35,10 +35,10 @@ module _ (flat : FlatClass) where
     pub first : slice_get misplaced_in 0 ≡ Some refusal.pos
     pub rule : refusal.rule ≡ rule.SupertypeNotAbstract
 
-  -- where there is none, the first class on a cycle of edges
+  -- if there is none, the first class on a cycle of edges
   abbrev pub RefusesEdges : Rejection → Type 0
   RefusesEdges (Refused refusal) = RefusesSupertype refusal ⊎ ((misplaced_in ≡ []) × IsFirstCycle ClassEdge flat.classes refusal)
-  RefusesEdges NoMemory = ⊤
+  RefusesEdges (Failed why) = ⊤
 
   -- nothing is refused of them
   pub record AreEdgesRight : Type 0 where

@@ -1,4 +1,4 @@
--- Which types the edges of a program answer to be below another.
+-- The subtype test: which types the edges of a program answer to be subtypes of another.
 use Rattle.std.specs.Prelude.{◌↔◌, ℕ, ◌||◌, Bool, false, IsTrue, List, Option}
 use Rattle.std.specs.Option.{option_map_or}
 use Rattle.sa_ast.specs.declared.class.FlatClass.{FlatClass}
@@ -34,7 +34,7 @@ module _ (edges : SubtypeRelation) where
   unfoldable pub climbs_in : BareTy → BareTy → Bool
   climbs_in s t = same_type s t || leads_in s t
 
-  -- whether a type is above every type
+  -- whether a type is a supertype of every type
   abbrev pub tops_in : BareTy → Bool
   tops_in t = climbs_in top t
 
@@ -42,10 +42,10 @@ module _ (edges : SubtypeRelation) where
   abbrev pub immutable_in : BareTy → Bool
   immutable_in t = option_map_or is_immutable_kind (kind_bare edges.lineage.names t) false
 
--- whether the edges answer that a type is below another
+-- whether the edges answer that a type is a subtype of another
 abbrev pub is_subtype : SubtypeRelation → Ty → Ty → Bool
 is_subtype edges s t = holds (tops_in edges) (climbs_in edges) (immutable_in edges) (bare s) (bare t) false
 
--- they answer so exactly where it is a subtype of the other in the program
+-- they answer so exactly if it is a subtype of the other in the program
 pub record AreSubtypesOf (flat : FlatClass) (edges : SubtypeRelation) : Type 0 where
   pub exact : (s t : Ty) → IsTrue (is_subtype edges s t) ↔ IsSubtype flat s t

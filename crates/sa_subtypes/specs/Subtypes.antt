@@ -1,5 +1,5 @@
--- The subtypes of a program: the least relation that is reflexive and transitive, holds each declared edge at each instance, holds
--- every type with `$OB`, and holds bound types by the rule of their arguments and results. Types are compared without their positions.
+-- The subtypes of a program: the least relation that is reflexive and transitive, contains each declared edge at each instance, has `$OB`
+-- as a supertype of every type, and relates bound types by the rule of their arguments and results. Positions of types don't count.
 use Rattle.std.specs.Prelude.{◌≡◌, ℕ, Bool, true, false, cond, List, [], ◌∷◌, length, Option, Some, None, ◌⊎◌, Contains, nat_eq}
 use Rattle.std.specs.Option.{option_map_or}
 use Rattle.std.specs.Cmp.Lexicographic.{pointwise}
@@ -10,8 +10,8 @@ use Rattle.sa_ast.specs.declared.class.ClassKind.TheVariants as kind
 use Rattle.sa_ast.specs.declared.ty.Mode.TheVariants.{In, Out, Inout, Once}
 use Rattle.sa_ast.specs.declared.ty.Ty.{Ty}
 use Rattle.sa_ast.specs.Types.{BareTy, Named, Same, Rout, Iter, no_types, type, BareArgs, no_args, arg, BareResult, no_result, gives, bare}
-use Rattle.sa_types.specs.AtTypes.{own_type, at_instance}
-use Rattle.sa_types.specs.Substitution.{place_of}
+use Rattle.sa_subst.specs.AtTypes.{own_type, at_instance}
+use Rattle.sa_subst.specs.Substitution.{place_of}
 
 -- ---- what the classes declare
 
@@ -31,7 +31,7 @@ IsClassIn flat c (Named name (type t more)) = (d : Class) × (class_named flat.c
 IsClassIn flat c Same = Unit {0}
 IsClassIn flat c _ = ⊥
 
--- `class C < $A` declares C below $A, at each instance of C
+-- `class C < $A` declares C a subtype of $A, at each instance of C
 abbrev pub DeclaresBelow : FlatClass → Class → BareTy → BareTy → Type 0
 DeclaresBelow flat c s t =
     (given : List Ty) × (u : Ty)
@@ -41,7 +41,7 @@ DeclaresBelow flat c s t =
     × (s ≡ bare (own_type c given))
     × (t ≡ bare (at_instance c given u))
 
--- `abstract class $A > C` declares C below $A, at each instance of $A
+-- `abstract class $A > C` declares C a subtype of $A, at each instance of $A
 abbrev pub DeclaresAbove : FlatClass → Class → BareTy → BareTy → Type 0
 DeclaresAbove flat c s t =
     (given : List Ty) × (u : Ty)
@@ -72,7 +72,7 @@ top_name = 36 ∷ 79 ∷ 66 ∷ []
 abbrev pub top : BareTy
 top = Named top_name no_types
 
--- at a place of two bound types: the types are equal, or neither is an immutable class
+-- at an index of two bound types: the types are equal, or neither is an immutable class
 abbrev pub MayOccur : (BareTy → Bool) → BareTy → BareTy → Type 0
 MayOccur immutable s t = (s ≡ t) ⊎ ((immutable s ≡ false) × (immutable t ≡ false))
 
@@ -88,7 +88,7 @@ mutual
     iter : {args others : BareArgs} {of other : BareResult} → SubArgs Edge immutable args others → SubResult Edge immutable of other
         → Sub Edge immutable (Iter args of) (Iter others other)
 
-  -- the arguments of a bound type and of one above it: equally many, with equal modes; `in` and `once` go the other way round
+  -- the arguments of a bound type and of a supertype: equally many, with equal modes; `in` and `once` are contravariant
   pub data SubArgs (Edge : BareTy → BareTy → Type 0) (immutable : BareTy → Bool) : BareArgs → BareArgs → Type 0 where
     none : SubArgs Edge immutable no_args no_args
     goes_in : {s t : BareTy} {args others : BareArgs} → MayOccur immutable s t → Sub Edge immutable t s → SubArgs Edge immutable args others

@@ -1,4 +1,4 @@
-//! The subtype relation by the rule for bound types: their arguments and results, place by place.
+//! The subtype relation by the rule for bound types: their arguments one by one, and their results.
 
 ghost use Rattle.std.specs.Prelude.{◌≡◌, ◌||◌, cond, not};
 ghost use Rattle.sa_subtypes.specs.Bounds.{arg_holds, args_hold, goes_by, holds, result_holds, rises, occurs_as};
@@ -11,7 +11,7 @@ use sa_ast::{Mode, ModeTy, Ty};
 use sqlite_items::Boxed;
 
 impl SubtypeRelation {
-    /// Whether the first type is a subtype of the second, or, turned, the second of the first.
+    /// Whether the first type is a subtype of the second, or, reversed, the second of the first.
     #[tactic(auto, using(crate::proofs::Bounding::holding))]
     #[cycle(holds)]
     pub(crate) fn holds(&self, one: &Ty, other: &Ty, turned: bool) -> bool
@@ -65,8 +65,8 @@ impl SubtypeRelation {
         true
     }
 
-    /// The rule for an argument of bound types: the modes are equal; where a type is an immutable class, the types are
-    /// equal; else it goes by the mode.
+    /// The rule for an argument of bound types: the modes are equal; if one type is an immutable class, the types are
+    /// equal; else the mode decides the variance.
     #[tactic(auto, using(crate::proofs::Bounding::argument))]
     #[cycle(holds)]
     fn arg_holds(&self, arg: &ModeTy, other: &ModeTy, turned: bool) -> bool
@@ -82,7 +82,7 @@ impl SubtypeRelation {
         self.goes_by(arg.mode, &arg.ty, &other.ty, turned)
     }
 
-    /// `in` and `once` go the other way round, `inout` types are equal, and `out` goes the same way.
+    /// `in` and `once` are contravariant, `inout` types are equal, and `out` is covariant.
     #[cycle(holds)]
     fn goes_by(&self, mode: Mode, one: &Ty, other: &Ty, turned: bool) -> bool
         ensures { result ≡ goes_by mode (same_type (bare one.now) (bare other.now))
@@ -97,8 +97,8 @@ impl SubtypeRelation {
         }
     }
 
-    /// The rule for the results of bound types: both have one or neither has; where a type is an immutable class, the
-    /// types are equal; it goes the same way.
+    /// The rule for the results of bound types: both have one or neither has; if one type is an immutable class, the
+    /// types are equal; else it is covariant.
     #[tactic(auto, using(crate::proofs::Bounding::results))]
     #[cycle(holds)]
     fn result_holds(&self, of: &Option<Boxed<Ty>>, other: &Option<Boxed<Ty>>, turned: bool) -> bool
@@ -128,7 +128,7 @@ impl SubtypeRelation {
         self.is_immutable(one) || self.is_immutable(other)
     }
 
-    /// Whether the upper one of two types is above every type, or edges lead to it.
+    /// Whether the second of two types (reversed, the first) is a supertype of every type, or edges lead to it from the other.
     fn rises(&self, one: &Ty, other: &Ty, turned: bool) -> bool
         ensures { result ≡ rises (tops_in self.now) (climbs_in self.now) (immutable_in self.now) (bare one.now) (bare other.now) turned }
     {

@@ -62,7 +62,7 @@ impl SubtypeRelation {
         self.leads(lower, args, upper, above)
     }
 
-    /// Whether a type is above every type: `$OB`, or a class that edges lead to from `$OB`.
+    /// Whether a type is a supertype of every type: `$OB`, or a class that edges lead to from `$OB`.
     #[tactic(auto, using(crate::proofs::Asking::tops))]
     pub(crate) fn is_above_all(&self, t: &Ty) -> bool
         ensures { result ≡ tops_in self.now (bare t.now) }

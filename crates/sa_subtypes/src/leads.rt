@@ -23,7 +23,7 @@ impl SubtypeRelation {
         self.is_in_tree(lower, args, upper, above) || self.is_in_list(lower, args, upper, above)
     }
 
-    /// Whether the second class is above the first in its tree, at the same arguments.
+    /// Whether the second class is an ancestor of the first in its tree, at the same arguments.
     #[tactic(auto, unfolding(crate::specs::Deciding::in_tree))]
     fn is_in_tree(&self, lower: u32, args: &[Ty], upper: u32, above: &[Ty]) -> bool
         ensures { result ≡ in_tree (tables_in self.now) lower (map bare args.now) upper (map bare above.now) }
@@ -42,7 +42,7 @@ impl SubtypeRelation {
         args.len() == self.lineage.names.arity(class)
     }
 
-    /// Whether the second class is the first or above it in its tree.
+    /// Whether the second class is the first or an ancestor of it in its tree.
     #[tactic(auto, using(sa_hierarchy::proofs::Jumps::trees))]
     fn has_ancestor(&self, lower: u32, upper: u32) -> bool
         ensures { result ≡ in_line self.now.lineage.links.items lower upper }
@@ -74,7 +74,7 @@ impl SubtypeRelation {
         self.lineage.links.get(class as usize).copied()
     }
 
-    /// Whether a class with these arguments has the list of its root.
+    /// Whether the list of the root serves a class with these arguments.
     fn has_list(&self, link: ParentLink, lower: u32, args: &[Ty]) -> bool
         ensures { result ≡ (nat_eq link.root lower || nat_eq (length (map bare args.now)) ((tables_in self.now).arity lower)) }
     {
@@ -92,14 +92,14 @@ impl SubtypeRelation {
         }
     }
 
-    /// Where the list of a class begins and ends.
+    /// The bounds of the list of a class.
     fn range(&self, class: u32) -> Option<(u32, u32)>
         ensures { result ≡ slice_get self.now.lineage.lists.items class }
     {
         self.lineage.lists.get(class as usize).copied()
     }
 
-    /// Whether a pair from a place up to another does.
+    /// Whether a pair from an index up to another does.
     #[tactic(auto, using(crate::proofs::Asking::places))]
     fn is_within(
         &self,
@@ -121,7 +121,7 @@ impl SubtypeRelation {
         false
     }
 
-    /// Whether the pair at a place does.
+    /// Whether the pair at an index does.
     #[tactic(auto, using(crate::proofs::Asking::lists))]
     fn is_at(&self, root: u32, place: u32, args: &[Ty], upper: u32, above: &[Ty]) -> bool
         ensures { result ≡ place_by (tables_in self.now) root (map bare args.now) upper (map bare above.now) place }
@@ -137,14 +137,14 @@ impl SubtypeRelation {
         }
     }
 
-    /// The pair at a place.
+    /// The pair at an index.
     fn entry(&self, place: u32) -> Option<Ancestor>
         ensures { result ≡ slice_get self.now.lineage.above.items place }
     {
         self.lineage.above.get(place as usize).copied()
     }
 
-    /// Whether a pair leads from a class with these arguments to the upper type, or to a type below it in its tree.
+    /// Whether a pair leads from a class with these arguments to the supertype, or to a type that has it as an ancestor in its tree.
     #[tactic(auto, unfolding(crate::specs::Deciding::is_by))]
     fn is_by(&self, entry: Ancestor, args: &[Ty], upper: u32, above: &[Ty]) -> bool
         ensures { result ≡ is_by (tables_in self.now) entry (map bare args.now) upper (map bare above.now) }

@@ -1,5 +1,5 @@
-//! The subtypes that the classes of a program declare: the least relation that is reflexive and transitive, holds each declared
-//! edge at each instance, holds every type with `$OB`, and holds bound types by the rule of their arguments and results.
+//! The subtypes that the classes of a program declare: the least relation that is reflexive and transitive, contains each declared edge at
+//! each instance, has `$OB` as a supertype of every type, and relates bound types by the rule of their arguments and results.
 #![tactic(auto)]
 
 mod bound_types;

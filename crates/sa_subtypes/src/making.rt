@@ -1,4 +1,4 @@
-//! The edges of a program are made and tried.
+//! The edges of a program are built and verified.
 
 ghost use Rattle.std.specs.Prelude.{◌≡◌, IfErr, IfOk, OnOk};
 ghost use Rattle.sa_subtypes.specs.SubtypeTest.{AreSubtypesOf};
@@ -10,17 +10,17 @@ use sa_hierarchy::build_hierarchy;
 use sa_unify::{Names, WorkBudget, first_misplaced, written_edges};
 use std::alloc::Global;
 
-/// The name of the type that is above every type.
+/// The name of the type that is a supertype of every type.
 pub(crate) const TOP: &[u8; 3] = b"$OB";
 
 impl SubtypeRelation {
     /// The edges of a program's classes.
     ///
-    /// It refuses with E19 at the first type after a `<`, in text order, that is no abstract class; and, where there is
-    /// none, with E18 at the name of the first class, in text order, that lies on a cycle of edges, whatever their
+    /// It refuses with E19 at the first type after a `<`, in source order, that is no abstract class; and, where there is
+    /// none, with E18 at the name of the first class, in source order, that lies on a cycle of edges, whatever their
     /// parameters are. It answers that memory has run out also where the supertypes take more than 200,000,000 units of
-    /// work, or the trial of their tables as many once more: one for each step and eight for each node of a type that is
-    /// written. So they do only where they hold parameters many times over or where thousands of classes in a chain change
+    /// work, or the verifier of their tables as many once more: one for each step and eight for each node of a type that is
+    /// written. So they do only if they hold parameters many times over or where thousands of classes in a chain change
     /// the arguments.
     #[tactic(auto, using(crate::proofs::Answering::making, crate::proofs::Refusing::refusing))]
     pub fn make(alloc: Global, flat: &FlatClass) -> Result<SubtypeRelation, Rejection>

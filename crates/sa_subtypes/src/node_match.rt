@@ -1,4 +1,4 @@
-//! A node beside a type or a mode: whether it is a variable, or the node with which the type begins.
+//! Matching a node against a type or a mode: whether it is a variable, or the node with which the type begins.
 
 ghost use Rattle.std.specs.Prelude.{◌≡◌, ◌+◌, ◌*◌, ◌<◌, drop, nat_eq};
 ghost use Rattle.sa_subtypes.specs.Questions.{is_class, is_head, is_iter, is_list, is_passed};
@@ -11,7 +11,7 @@ use sa_ast::{Mode, ModeTy, Name, Ty};
 use sa_unify::Node;
 use sqlite_items::Boxed;
 
-/// The node at a place, beside a type or a mode, with the place behind the node.
+/// The match of the node at an index against a type or a mode, with the index after the node.
 #[derive(Clone, Copy)]
 pub(crate) enum NodeMatch {
     /// A variable by its number.
@@ -22,7 +22,7 @@ pub(crate) enum NodeMatch {
     Another,
 }
 
-/// What is at a place, beside a type or a mode.
+/// Matches the node at an index against a type or a mode.
 #[tactic(auto, using(crate::proofs::Comparing::meeting))]
 pub(crate) fn match_at(nodes: &[Node], at: usize, part: TypePart<'_>) -> NodeMatch
     ensures { met nodes.now result ≡ meets (item_of part.entry) (drop at nodes.now) }
@@ -102,7 +102,7 @@ fn is_iter(node: &Node, args: &[ModeTy], of: &Option<Boxed<Ty>>) -> bool
     }
 }
 
-/// Whether so many nodes are held by a bound type: the mode and the type of each argument, and the type of the result, if
+/// Whether a bound type has n child nodes: the mode and the type of each argument, and the type of the result, if
 /// it has one.
 #[tactic(auto, using(crate::proofs::Comparing::bound))]
 fn is_held(count: u32, args: &[ModeTy], of: &Option<Boxed<Ty>>) -> bool
@@ -135,7 +135,7 @@ fn is_passed(node: &Node, mode: Mode) -> bool
     }
 }
 
-/// Whether a node holds so many.
+/// Whether a node has n children.
 pub(crate) fn is_count(count: u32, len: usize) -> bool
     ensures { result ≡ nat_eq count len }
 {

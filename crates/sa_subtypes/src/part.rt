@@ -1,4 +1,4 @@
-//! What may stand beside a node.
+//! What a node is matched against.
 
 ghost use Rattle.std.specs.Prelude.{◌≡◌};
 ghost use Rattle.sa_subtypes.specs.Questions.{item_of, same_item};
@@ -7,14 +7,14 @@ ghost use Rattle.sa_ast.specs.Types.{bare};
 
 use sa_ast::{Mode, Ty};
 
-/// What may stand beside a node: a type, or the mode of an argument.
+/// What a node is matched against: a type, or the mode of an argument.
 #[derive(Clone, Copy)]
 pub(crate) enum TypePart<'a> {
     Typed(&'a Ty),
     Passed(Mode),
 }
 
-/// Whether two are the same, but for positions.
+/// Whether two are the same, up to positions.
 pub(crate) fn is_same(one: TypePart<'_>, other: TypePart<'_>) -> bool
     ensures { result ≡ same_item (item_of one.entry) (item_of other.entry) }
 {

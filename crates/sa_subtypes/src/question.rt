@@ -1,8 +1,8 @@
 //! Whether two types are an instance of a pair.
 //!
-//! The nodes of a pair are walked beside the arguments of the two types. A node that is no variable has to be that with
-//! which the type beside it begins, and a variable has to stand beside what it stands beside where it comes first. A
-//! question takes no memory, so what a variable stands beside first is looked for each time.
+//! The nodes of a pair are matched against the arguments of the two types. A node that is no variable has to be the one with
+//! which the type begins, and each occurrence of a variable has to match the same as its first one. A
+//! query takes no memory, so what the first occurrence matches is searched for each time.
 
 ghost use Rattle.std.specs.Prelude.{◌≡◌, drop, length, map, slice_get};
 ghost use Rattle.std.specs.Option.{option_map};
@@ -19,12 +19,12 @@ use sa_ast::{Mode, ModeTy, Ty};
 use sa_unify::Node;
 use sqlite_items::Boxed;
 
-/// The nodes of a pair behind the first, and those of the upper type's arguments, with the arguments of two types.
+/// The nodes of a pair after the first, and those of the supertype's arguments, with the arguments of two types.
 #[derive(Clone, Copy)]
 pub(crate) struct Question<'a> {
     pub nodes: &'a [Node],
     pub above: &'a [Node],
-    /// Whether the arguments of the pair's lower type are the variables 0, 1, 2 and so on.
+    /// Whether the arguments of the pair's subtype are the variables 0, 1, 2 and so on.
     pub plain: bool,
     pub lower: &'a [Ty],
     pub upper: &'a [Ty],
@@ -41,7 +41,7 @@ pub(crate) fn pair_fits(nodes: &[Node], lower: &[Ty], upper: &[Ty]) -> bool
     }
 }
 
-/// Whether the first node is the list of so many arguments, and the nodes behind it fit.
+/// Whether the first node is the list of n arguments, and the nodes after it match.
 #[tactic(auto, using(crate::proofs::Comparing::counts))]
 fn first_fits(first: &Node, nodes: &[Node], lower: &[Ty], upper: &[Ty]) -> bool
     ensures { result ≡ first_fits (map bare lower.now) (map bare upper.now) nodes.now first.now }
@@ -57,7 +57,7 @@ fn first_fits(first: &Node, nodes: &[Node], lower: &[Ty], upper: &[Ty]) -> bool
     }
 }
 
-/// Whether the nodes are the arguments of the lower type and then the upper type.
+/// Whether the nodes are the arguments of the subtype and then the supertype.
 #[tactic(auto, using(crate::proofs::Comparing::pair_steps))]
 fn arguments_fit(nodes: &[Node], lower: &[Ty], upper: &[Ty]) -> bool
     ensures { result ≡ upper_fits (map bare lower.now) (map bare upper.now)
@@ -70,7 +70,7 @@ fn arguments_fit(nodes: &[Node], lower: &[Ty], upper: &[Ty]) -> bool
     }
 }
 
-/// Whether the upper type is at a place, and the arguments of both fit.
+/// Whether the supertype begins at an index, and the arguments of both match.
 #[tactic(auto, using(crate::proofs::Comparing::pair_steps))]
 fn upper_fits(nodes: &[Node], end: usize, lower: &[Ty], upper: &[Ty]) -> bool
     ensures { result ≡ upper_fits (map bare lower.now) (map bare upper.now) nodes.now (past (drop end nodes.now)) }
@@ -139,7 +139,7 @@ fn is_number(node: &Node, number: usize) -> bool
 }
 
 impl<'a> Question<'a> {
-    /// Whether all nodes are those of the types, with what stands for the variables.
+    /// Whether all nodes are those of the types, with the bindings of the variables.
     #[tactic(auto, using(crate::proofs::Comparing::ends))]
     fn holds(&self) -> bool
         ensures { result ≡ both_fit (value_in self.now) (map bare self.now.lower.now)
@@ -161,7 +161,7 @@ impl<'a> Question<'a> {
         }
     }
 
-    /// Compares the nodes from a place on with a type, and gives the place behind them.
+    /// Matches the nodes from an index on against a type, and gives the index after them.
     #[tactic(auto, using(crate::proofs::Comparing::steps))]
     #[cycle(fit)]
     fn fits(&self, nodes: &[Node], at: usize, ty: &Ty) -> Option<usize>
@@ -180,7 +180,7 @@ impl<'a> Question<'a> {
         }
     }
 
-    /// The same with what a type holds.
+    /// The same with the parts of a type.
     #[tactic(auto, using(crate::proofs::Comparing::insides))]
     #[cycle(fit)]
     fn inside_fits(&self, nodes: &[Node], at: usize, ty: &Ty) -> Option<usize>
@@ -226,7 +226,7 @@ impl<'a> Question<'a> {
         Some(next)
     }
 
-    /// The same with an argument: a mode stands before its type.
+    /// The same with an argument: its mode comes before its type.
     #[tactic(auto, using(crate::proofs::Comparing::insides))]
     #[cycle(fit)]
     fn arg_fits(&self, nodes: &[Node], at: usize, arg: &ModeTy) -> Option<usize>
@@ -264,7 +264,7 @@ impl<'a> Question<'a> {
         }
     }
 
-    /// Whether this is what stands for a variable.
+    /// Whether this is the binding of a variable.
     #[tactic(auto, using(crate::proofs::Comparing::values))]
     fn occurs(&self, number: u32, part: TypePart<'_>) -> bool
         ensures { result ≡ occurs (value_in self.now number) (item_of part.entry) }
@@ -275,7 +275,7 @@ impl<'a> Question<'a> {
         }
     }
 
-    /// What stands for a variable: what stands beside it where it comes first.
+    /// The binding of a variable: what its first occurrence matches.
     #[tactic(auto, using(crate::proofs::Comparing::values))]
     fn value(&self, number: u32) -> Option<TypePart<'a>>
         ensures { option_map item_of result ≡ value_in self.now number }
@@ -297,7 +297,7 @@ impl<'a> Question<'a> {
     }
 }
 
-/// Whether a place is behind all nodes.
+/// Whether an index is after all nodes.
 #[tactic(auto, using(crate::proofs::Comparing::ends))]
 fn is_at_end(nodes: &[Node], place: usize) -> bool
     ensures { result ≡ is_end (past (drop place nodes.now)) }

@@ -1,4 +1,4 @@
-//! The subtype relation of a program: its declared edges at each instance, `$OB` above every type, and the rule for bound
+//! The subtype relation of a program: its declared edges at each instance, `$OB` as a supertype of every type, and the rule for bound
 //! types.
 
 ghost use Rattle.std.specs.Prelude.{◌≡◌};
@@ -11,12 +11,12 @@ use crate::edges::SubtypeRelation;
 use sa_ast::{ClassKind, Ty};
 
 impl SubtypeRelation {
-    /// The place among the program's classes of the class with this name.
+    /// The index among the program's classes of the class with this name.
     pub fn class_place(&self, name: &[u8]) -> Option<u32> {
         self.lineage.names.class(name)
     }
 
-    /// The place of a type's class in an order of the program's classes in which each stands behind those that its edges lead to.
+    /// The index of a type's class in a topological order of the program's classes: each class is after those that its edges lead to.
     /// A bound type has none.
     pub fn rank(&self, t: &Ty) -> Option<u32> {
         match t {

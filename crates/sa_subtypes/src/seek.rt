@@ -1,4 +1,4 @@
-//! The first place of a variable among nodes beside types.
+//! The first occurrence of a variable in nodes that are matched against types.
 
 ghost use Rattle.std.specs.Prelude.{◌≡◌, drop};
 ghost use Rattle.std.specs.Option.{option_map};
@@ -12,18 +12,18 @@ use sa_ast::{Mode, ModeTy, Ty};
 use sa_unify::Node;
 use sqlite_items::Boxed;
 
-/// What a search for the first place of a variable has found.
+/// The result of a search for the first occurrence of a variable.
 #[derive(Clone, Copy)]
 pub(crate) enum SearchResult<'a> {
-    /// What stands beside it there.
+    /// What it matches there.
     Here(TypePart<'a>),
-    /// Nothing up to this place.
+    /// No occurrence up to this index.
     Behind(usize),
-    /// The nodes aren't those of the types.
+    /// The nodes don't match the types.
     Nothing,
 }
 
-/// What stands beside a variable where it comes first, among nodes beside types.
+/// What the first occurrence of a variable matches, in nodes that are matched against types.
 #[tactic(auto, using(crate::proofs::Comparing::values))]
 pub(crate) fn first_in<'a>(number: u32, types: &'a [Ty], nodes: &[Node]) -> Option<TypePart<'a>>
     ensures { option_map item_of result ≡ first_in number (all_bare types.now) nodes.now }
@@ -35,7 +35,7 @@ pub(crate) fn first_in<'a>(number: u32, types: &'a [Ty], nodes: &[Node]) -> Opti
     }
 }
 
-/// Searches the nodes from a place on, beside a type, for the first place of a variable, or for none.
+/// Searches the nodes from an index on, matched against a type, for the first occurrence of a variable, or for none.
 #[tactic(auto, using(crate::proofs::Comparing::steps))]
 #[cycle(search)]
 fn search<'a>(nodes: &[Node], at: usize, wanted: Option<u32>, ty: &'a Ty) -> SearchResult<'a>
@@ -54,7 +54,7 @@ fn search<'a>(nodes: &[Node], at: usize, wanted: Option<u32>, ty: &'a Ty) -> Sea
     }
 }
 
-/// The same in what a type holds.
+/// The same in the parts of a type.
 #[tactic(auto, using(crate::proofs::Comparing::insides))]
 #[cycle(search)]
 fn search_inside<'a>(nodes: &[Node], at: usize, wanted: Option<u32>, ty: &'a Ty) -> SearchResult<'a>
@@ -120,7 +120,7 @@ fn search_args<'a>(
     SearchResult::Behind(next)
 }
 
-/// The same in an argument: a mode stands before its type.
+/// The same in an argument: its mode comes before its type.
 #[tactic(auto, using(crate::proofs::Comparing::insides))]
 #[cycle(search)]
 fn search_arg<'a>(

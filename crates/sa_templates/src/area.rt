@@ -1,19 +1,20 @@
-//! How a call hands its receiver and arguments to a body, and the body hands them back: the first arguments and the receiver are
-//! operands, the other arguments lie in an area of memory, and so does what is handed back.
+//! How a call passes its receiver and arguments to a body, and what the body copies out: the first arguments and the receiver are operands,
+//! the other arguments are in an area of memory, and so is what is copied out.
 
-use crate::context::{EmitContext, held, local_of};
+use crate::context::{EmitContext, local_of};
+use failure::{Failure, Invariant, known};
 use sa_ast::Mode;
 use sa_cfg::{BodyParam, CallOperand, CfgBody};
 use sa_runtime::layout::{FIRST_ARGUMENT_AT, PARAMETERS, RESULT};
 use sa_runtime::template_ops::{TemplateOp, emit_ops};
 use sqlite_items::Items;
+use wa_syntax::Instr;
 use wa_syntax::opcode::{I64_LOAD, I64_STORE};
-use wa_syntax::{Instr, NoMemory};
 
 /// How many arguments the area has room for.
 pub const ARGUMENTS: usize = 200;
 
-/// Which arguments a call hands down.
+/// Which arguments a call passes.
 #[derive(Clone, Copy, Debug, PartialEq, Eq)]
 pub enum CallPhase {
     /// All of them: the call begins what it calls.
@@ -27,13 +28,13 @@ pub fn parameters(args: &[CallOperand]) -> u32 {
     args.len().min(PARAMETERS) as u32
 }
 
-/// Adds the arguments that a call hands down: operands, and stores of those that lie in the area.
+/// Emits the arguments that a call passes: operands, and stores of those that are in the area.
 pub fn emit_args(
     code: &mut Items<Instr>,
     around: &EmitContext<'_>,
     args: &[CallOperand],
     handing: CallPhase,
-) -> Result<(), NoMemory> {
+) -> Result<(), Failure> {
     for (place, arg) in args.iter().enumerate() {
         if place < PARAMETERS {
             emit_ops(code, &[arg_operand(around, arg, handing)?])?;
@@ -44,25 +45,25 @@ pub fn emit_args(
     Ok(())
 }
 
-/// An argument as an operand: 0 where it isn't handed down.
+/// An argument as an operand: 0 where it isn't passed.
 fn arg_operand(
     around: &EmitContext<'_>,
     arg: &CallOperand,
     handing: CallPhase,
-) -> Result<TemplateOp, NoMemory> {
+) -> Result<TemplateOp, Failure> {
     if !is_passed(arg.mode, handing) {
         return Ok(TemplateOp::I64(0));
     }
-    Ok(around.operand(held(arg.var)?))
+    Ok(around.operand(known(arg.var, Invariant::CfgNumber)?))
 }
 
-/// Adds what stores the arguments that the call of a bound value hands down.
+/// Emits the stores of the arguments that the call of a bound value passes.
 pub fn emit_stored_args(
     code: &mut Items<Instr>,
     around: &EmitContext<'_>,
     args: &[CallOperand],
     handing: CallPhase,
-) -> Result<(), NoMemory> {
+) -> Result<(), Failure> {
     for (place, arg) in args.iter().enumerate() {
         emit_argument(code, around, place, arg, handing)?;
     }
@@ -75,21 +76,21 @@ fn emit_argument(
     place: usize,
     arg: &CallOperand,
     handing: CallPhase,
-) -> Result<(), NoMemory> {
+) -> Result<(), Failure> {
     if !is_passed(arg.mode, handing) {
         return Ok(());
     }
-    let var = held(arg.var)?;
+    let var = known(arg.var, Invariant::CfgNumber)?;
     emit_store(code, argument_at(place)?, around.operand(var))
 }
 
-/// Adds what takes the result of a call and then what is copied back, in order.
+/// Emits the code that takes the result of a call and then what is copied out, in order.
 pub fn emit_results(
     code: &mut Items<Instr>,
     around: &EmitContext<'_>,
     value: Option<u32>,
     args: &[CallOperand],
-) -> Result<(), NoMemory> {
+) -> Result<(), Failure> {
     emit_result(code, around, value)?;
     for (place, arg) in args.iter().enumerate() {
         emit_out_arg(code, around, place, arg)?;
@@ -102,38 +103,38 @@ fn emit_out_arg(
     around: &EmitContext<'_>,
     place: usize,
     arg: &CallOperand,
-) -> Result<(), NoMemory> {
+) -> Result<(), Failure> {
     if !is_copied_out(arg.mode) {
         return Ok(());
     }
-    let var = held(arg.var)?;
+    let var = known(arg.var, Invariant::CfgNumber)?;
     emit_load(code, argument_at(place)?, around.local(var))
 }
 
-/// Adds what takes the result of a call, where it is wanted.
+/// Emits the code that takes the result of a call, where it is wanted.
 pub(crate) fn emit_result(
     code: &mut Items<Instr>,
     around: &EmitContext<'_>,
     value: Option<u32>,
-) -> Result<(), NoMemory> {
+) -> Result<(), Failure> {
     match value {
         Some(_) => emit_ops(code, &[TemplateOp::GetGlobal(RESULT), around.put(value)]),
         None => Ok(()),
     }
 }
 
-/// Adds what a body begins with: the arguments that lie in the area.
+/// Emits the code that a body begins with: the loads of the arguments that are in the area.
 ///
 /// # Errors
 ///
-/// `NoMemory`, also where the body has more arguments than the area has room for.
-pub fn emit_prologue(code: &mut Items<Instr>, body: &CfgBody) -> Result<(), NoMemory> {
+/// A `Failure`: `Broken` where the body has more arguments than the area has room for.
+pub fn emit_prologue(code: &mut Items<Instr>, body: &CfgBody) -> Result<(), Failure> {
     emit_formals(code, body)?;
     emit_once_formals(code, body)
 }
 
-/// Adds what takes the arguments in the area that each call hands down, also the one that resumes an instance.
-pub fn emit_formals(code: &mut Items<Instr>, body: &CfgBody) -> Result<(), NoMemory> {
+/// Emits the loads of the arguments in the area that each call passes, also the one that resumes an instance.
+pub fn emit_formals(code: &mut Items<Instr>, body: &CfgBody) -> Result<(), Failure> {
     for (place, formal) in body.formals.as_slice().iter().enumerate() {
         if place >= PARAMETERS && is_passed(formal.mode, CallPhase::AtResumption) {
             emit_formal(code, body, place)?;
@@ -142,8 +143,8 @@ pub fn emit_formals(code: &mut Items<Instr>, body: &CfgBody) -> Result<(), NoMem
     Ok(())
 }
 
-/// Adds what takes the arguments in the area that a start alone hands down.
-pub fn emit_once_formals(code: &mut Items<Instr>, body: &CfgBody) -> Result<(), NoMemory> {
+/// Emits the loads of the arguments in the area that a start alone passes.
+pub fn emit_once_formals(code: &mut Items<Instr>, body: &CfgBody) -> Result<(), Failure> {
     for (place, formal) in body.formals.as_slice().iter().enumerate() {
         if place >= PARAMETERS && is_once(formal.mode) {
             emit_formal(code, body, place)?;
@@ -152,13 +153,13 @@ pub fn emit_once_formals(code: &mut Items<Instr>, body: &CfgBody) -> Result<(), 
     Ok(())
 }
 
-fn emit_formal(code: &mut Items<Instr>, body: &CfgBody, place: usize) -> Result<(), NoMemory> {
+fn emit_formal(code: &mut Items<Instr>, body: &CfgBody, place: usize) -> Result<(), Failure> {
     let at = argument_at(place)?;
     emit_load(code, at, formal_local(body, place)?)
 }
 
-/// Adds what a body hands back of its arguments, into the area.
-pub fn emit_copies_out(code: &mut Items<Instr>, body: &CfgBody) -> Result<(), NoMemory> {
+/// Emits the stores of what a body copies out of its arguments, into the area.
+pub fn emit_copies_out(code: &mut Items<Instr>, body: &CfgBody) -> Result<(), Failure> {
     for (place, formal) in body.formals.as_slice().iter().enumerate() {
         emit_copy_out(code, body, place, formal)?;
     }
@@ -170,7 +171,7 @@ fn emit_copy_out(
     body: &CfgBody,
     place: usize,
     formal: &BodyParam,
-) -> Result<(), NoMemory> {
+) -> Result<(), Failure> {
     if !is_copied_out(formal.mode) {
         return Ok(());
     }
@@ -178,20 +179,20 @@ fn emit_copy_out(
     emit_store(code, at, TemplateOp::Get(formal_local(body, place)?))
 }
 
-/// Adds what stores a value at an address. `value` reads it.
+/// Emits the store of a value at an address. `value` reads it.
 pub(crate) fn emit_store(
     code: &mut Items<Instr>,
     at: u32,
     value: TemplateOp,
-) -> Result<(), NoMemory> {
+) -> Result<(), Failure> {
     emit_ops(
         code,
         &[TemplateOp::I32(0), value, TemplateOp::Memory(I64_STORE, at)],
     )
 }
 
-/// Adds what loads a local from an address.
-pub(crate) fn emit_load(code: &mut Items<Instr>, at: u32, local: u32) -> Result<(), NoMemory> {
+/// Emits the load of a local from an address.
+pub(crate) fn emit_load(code: &mut Items<Instr>, at: u32, local: u32) -> Result<(), Failure> {
     emit_ops(
         code,
         &[
@@ -203,25 +204,25 @@ pub(crate) fn emit_load(code: &mut Items<Instr>, at: u32, local: u32) -> Result<
 }
 
 /// The local with an argument of the body.
-fn formal_local(body: &CfgBody, place: usize) -> Result<u32, NoMemory> {
-    let var = held(u32::try_from(place).ok())?;
+fn formal_local(body: &CfgBody, place: usize) -> Result<u32, Failure> {
+    let var = known(u32::try_from(place).ok(), Invariant::CfgNumber)?;
     Ok(local_of(body, var))
 }
 
 /// The address of an argument.
-fn argument_at(place: usize) -> Result<u32, NoMemory> {
+fn argument_at(place: usize) -> Result<u32, Failure> {
     if place >= ARGUMENTS {
         return Err(too_many());
     }
     Ok(FIRST_ARGUMENT_AT + 8 * place as u32)
 }
 
-/// The answer for an argument that the area has no room for. A feature has no more variables than that.
-fn too_many() -> NoMemory {
-    NoMemory
+/// The error for an argument that the area has no room for. A feature has no more variables than that.
+fn too_many() -> Failure {
+    Failure::Broken(Invariant::CfgNumber)
 }
 
-/// Whether a call hands the argument's value to the body.
+/// Whether a call passes the argument's value to the body.
 fn is_passed(mode: Mode, handing: CallPhase) -> bool {
     match mode {
         Mode::Out => false,
@@ -236,7 +237,7 @@ pub fn is_once(mode: Mode) -> bool {
     matches!(mode, Mode::Once)
 }
 
-/// Whether the argument's value goes back to the variable of the call.
+/// Whether the argument's value is copied out to the variable of the call.
 pub fn is_copied_out(mode: Mode) -> bool {
     matches!(mode, Mode::Out | Mode::Inout)
 }

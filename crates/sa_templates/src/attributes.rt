@@ -2,8 +2,9 @@
 
 use crate::area::{emit_result, emit_store};
 use crate::builtins::argument;
-use crate::context::{EmitContext, held};
+use crate::context::EmitContext;
 use crate::failing::{emit_fail_if, emit_void_test};
+use failure::{Failure, Invariant, known};
 use sa_ast::ClassKind;
 use sa_cfg::CallOperation;
 use sa_runtime::layout::{CHANGED, SHAREDS_AT, attribute_at};
@@ -11,16 +12,16 @@ use sa_runtime::template_ops::{TemplateOp, emit_ops};
 use sqlite_items::Items;
 use std::alloc::Global;
 use wa_syntax::opcode::{I32_WRAP_I64, I64_EQZ, I64_LOAD, I64_STORE};
-use wa_syntax::{Instr, NoMemory, ValTy};
+use wa_syntax::{Instr, ValTy};
 
-/// The value of an attribute by its place.
+/// The value of an attribute by its index.
 pub fn emit_get(
     alloc: Global,
     code: &mut Items<Instr>,
     around: &EmitContext<'_>,
     plan: &CallOperation,
     place: u32,
-) -> Result<(), NoMemory> {
+) -> Result<(), Failure> {
     if is_immutable(around, plan.class)? {
         return emit_get_of_value(alloc, code, around, plan, place);
     }
@@ -36,7 +37,7 @@ fn emit_get_of_value(
     around: &EmitContext<'_>,
     plan: &CallOperation,
     place: u32,
-) -> Result<(), NoMemory> {
+) -> Result<(), Failure> {
     let inner = around.further_in()?;
     let mut void = Items::new(alloc);
     emit_ops(&mut void, &[TemplateOp::I64(0)])?;
@@ -50,13 +51,13 @@ fn emit_get_of_value(
     emit_ops(code, &[around.put(plan.value)])
 }
 
-/// Adds what reads the attribute of an object, as an operand.
+/// Emits the load of the attribute of an object, as an operand.
 fn emit_read(
     code: &mut Items<Instr>,
     around: &EmitContext<'_>,
     plan: &CallOperation,
     place: u32,
-) -> Result<(), NoMemory> {
+) -> Result<(), Failure> {
     let line = [
         around.same_operand(plan.recv),
         TemplateOp::Do(I32_WRAP_I64),
@@ -65,14 +66,14 @@ fn emit_read(
     emit_ops(code, &line)
 }
 
-/// Writes an attribute by its place.
+/// Writes an attribute by its index.
 pub fn emit_set(
     alloc: Global,
     code: &mut Items<Instr>,
     around: &EmitContext<'_>,
     plan: &CallOperation,
     place: u32,
-) -> Result<(), NoMemory> {
+) -> Result<(), Failure> {
     if is_immutable(around, plan.class)? {
         return emit_set_of_value(alloc, code, around, plan, place);
     }
@@ -94,7 +95,7 @@ fn emit_set_of_value(
     around: &EmitContext<'_>,
     plan: &CallOperation,
     place: u32,
-) -> Result<(), NoMemory> {
+) -> Result<(), Failure> {
     let attributes = around.attributes(plan.class)?;
     let value = argument(around, plan, 0)?;
     let line = [
@@ -123,7 +124,7 @@ pub fn emit_get_shared(
     around: &EmitContext<'_>,
     plan: &CallOperation,
     shared: u32,
-) -> Result<(), NoMemory> {
+) -> Result<(), Failure> {
     let line = [
         TemplateOp::I32(0),
         TemplateOp::Memory(I64_LOAD, shared_at(shared)?),
@@ -138,7 +139,7 @@ pub fn emit_set_shared(
     around: &EmitContext<'_>,
     plan: &CallOperation,
     shared: u32,
-) -> Result<(), NoMemory> {
+) -> Result<(), Failure> {
     emit_store(code, shared_at(shared)?, argument(around, plan, 0)?)
 }
 
@@ -148,18 +149,21 @@ pub fn emit_init_shared(
     around: &EmitContext<'_>,
     shared: u32,
     from: u32,
-) -> Result<(), NoMemory> {
+) -> Result<(), Failure> {
     emit_store(code, shared_at(shared)?, around.operand(from))
 }
 
 /// The address of a shared.
-pub fn shared_at(shared: u32) -> Result<u32, NoMemory> {
-    let bytes = held(shared.checked_mul(8))?;
-    held(bytes.checked_add(SHAREDS_AT))
+pub fn shared_at(shared: u32) -> Result<u32, Failure> {
+    let bytes = known(shared.checked_mul(8), Invariant::CfgNumber)?;
+    known(bytes.checked_add(SHAREDS_AT), Invariant::CfgNumber)
 }
 
 /// Whether a type is of an immutable class.
-pub fn is_immutable(around: &EmitContext<'_>, ty: u32) -> Result<bool, NoMemory> {
-    let layout = held(around.program.flat.layouts.get(ty as usize))?;
+pub fn is_immutable(around: &EmitContext<'_>, ty: u32) -> Result<bool, Failure> {
+    let layout = known(
+        around.program.flat.layouts.get(ty as usize),
+        Invariant::CfgNumber,
+    )?;
     Ok(matches!(layout.kind, ClassKind::Immutable))
 }

@@ -2,11 +2,12 @@
 
 use crate::area::emit_result;
 use crate::conditionals::emit_if;
-use crate::context::{EmitContext, held};
+use crate::context::EmitContext;
 use crate::failing::{emit_fail, emit_fail_if};
 use crate::objects::emit_element;
 use crate::operand_source::OperandSource;
 use crate::values::emit_truth;
+use failure::{Failure, Invariant, known};
 use sa_cfg::CallOperation;
 use sa_prelude::BuiltinFeature;
 use sa_runtime::fault_numbers::{INDEX, OVERFLOW, VOID};
@@ -15,16 +16,16 @@ use sa_runtime::template_ops::{TemplateOp, emit_ops};
 use sa_stackify::{BuiltinForm, ResultPlace, form_of, swapped_opcode};
 use sqlite_items::Items;
 use std::alloc::Global;
+use wa_syntax::Instr;
 use wa_syntax::opcode::{
     I32_EQZ, I32_WRAP_I64, I64_ADD, I64_EQZ, I64_EXTEND_I32_S, I64_GE_U, I64_GT_S, I64_LOAD,
     I64_LOAD32_U, I64_LT_S, I64_MUL, I64_NE, I64_STORE, I64_SUB, SELECT,
 };
-use wa_syntax::{Instr, NoMemory};
 
 /// The runtime's function that makes an array.
 pub(crate) const CREATE: u32 = FIRST_BUILTIN + BuiltinFeature::ArrayCreate as u32;
 
-/// The byte of an object at which its length stands.
+/// The offset of the length in an object, in bytes.
 const LENGTH_AT: u32 = 4;
 
 /// A call of a built-in feature.
@@ -34,7 +35,7 @@ pub fn emit_builtin(
     around: &EmitContext<'_>,
     plan: &CallOperation,
     feature: BuiltinFeature,
-) -> Result<(), NoMemory> {
+) -> Result<(), Failure> {
     match form_of(feature) {
         BuiltinForm::Compares(opcode) => emit_comparison(code, around, plan, opcode),
         BuiltinForm::Combines(opcode) => emit_combination(code, around, plan, opcode),
@@ -54,28 +55,33 @@ pub(crate) fn argument(
     around: &EmitContext<'_>,
     plan: &CallOperation,
     place: usize,
-) -> Result<TemplateOp, NoMemory> {
+) -> Result<TemplateOp, Failure> {
     Ok(around.operand(argument_variable(plan, place)?))
 }
 
 /// The variable with an argument of a call.
-fn argument_variable(plan: &CallOperation, place: usize) -> Result<u32, NoMemory> {
-    let arg = held(plan.args.get(place))?;
-    held(arg.var)
+fn argument_variable(plan: &CallOperation, place: usize) -> Result<u32, Failure> {
+    let arg = known(plan.args.get(place), Invariant::CfgNumber)?;
+    known(arg.var, Invariant::CfgNumber)
 }
 
-/// Adds an instruction on the receiver and the argument. Where the argument alone is an operand already, they are the other way
-/// round.
+/// Emits an instruction on the receiver and the argument. Where the argument alone is an operand already, they are in the other order.
 fn emit_on_both(
     code: &mut Items<Instr>,
     around: &EmitContext<'_>,
     plan: &CallOperation,
     opcode: u8,
-) -> Result<(), NoMemory> {
+) -> Result<(), Failure> {
     let second = argument_variable(plan, 0)?;
     let recv = around.operand(plan.recv);
     if around.is_operand(second) && !around.is_operand(plan.recv) {
-        return emit_ops(code, &[recv, TemplateOp::Do(held(swapped_opcode(opcode))?)]);
+        return emit_ops(
+            code,
+            &[
+                recv,
+                TemplateOp::Do(known(swapped_opcode(opcode), Invariant::CfgNumber)?),
+            ],
+        );
     }
     emit_ops(
         code,
@@ -89,7 +95,7 @@ fn emit_comparison(
     around: &EmitContext<'_>,
     plan: &CallOperation,
     opcode: u8,
-) -> Result<(), NoMemory> {
+) -> Result<(), Failure> {
     emit_on_both(code, around, plan, opcode)?;
     emit_truth(code, around, plan.value)
 }
@@ -100,19 +106,19 @@ fn emit_combination(
     around: &EmitContext<'_>,
     plan: &CallOperation,
     opcode: u8,
-) -> Result<(), NoMemory> {
+) -> Result<(), Failure> {
     emit_on_both(code, around, plan, opcode)?;
     emit_ops(code, &[around.put(plan.value)])
 }
 
-/// A number made of the receiver and the argument. The 64 bits of a word hold it, and a fault comes where 32 don't.
+/// A number made of the receiver and the argument. It fits the 64 bits of a word, and a fault comes where it doesn't fit 32.
 fn emit_calculation(
     alloc: Global,
     code: &mut Items<Instr>,
     around: &EmitContext<'_>,
     plan: &CallOperation,
     opcode: u8,
-) -> Result<(), NoMemory> {
+) -> Result<(), Failure> {
     emit_on_both(code, around, plan, opcode)?;
     match bound_of(around, plan, opcode)? {
         Some(bound) => emit_within_bound(alloc, code, around, plan, bound),
@@ -120,7 +126,7 @@ fn emit_calculation(
     }
 }
 
-/// The bound that a sum or a difference may pass, on one side alone: the instruction that tells whether it does, and the bound.
+/// The bound that a sum or a difference may pass, on one side alone: the instruction that decides whether it does, and the bound.
 #[derive(Clone, Copy)]
 struct Bound {
     passes: u8,
@@ -132,7 +138,7 @@ fn bound_of(
     around: &EmitContext<'_>,
     plan: &CallOperation,
     opcode: u8,
-) -> Result<Option<Bound>, NoMemory> {
+) -> Result<Option<Bound>, Failure> {
     let second = argument_variable(plan, 0)?;
     let OperandSource::Word(word) = around.reading(second) else {
         return Ok(None);
@@ -165,7 +171,7 @@ fn emit_negation(
     code: &mut Items<Instr>,
     around: &EmitContext<'_>,
     plan: &CallOperation,
-) -> Result<(), NoMemory> {
+) -> Result<(), Failure> {
     if around.is_operand(plan.recv) {
         emit_ops(code, &[TemplateOp::I64(u64::MAX), TemplateOp::Do(I64_MUL)])?;
     } else {
@@ -181,13 +187,13 @@ fn emit_negation(
     emit_in_range(alloc, code, around, plan)
 }
 
-/// Adds what takes the operand for the result of a call, and the fault where 32 bits with a sign don't hold it.
+/// Emits the code that takes the operand for the result of a call, and the fault where it doesn't fit 32 bits with a sign.
 fn emit_in_range(
     alloc: Global,
     code: &mut Items<Instr>,
     around: &EmitContext<'_>,
     plan: &CallOperation,
-) -> Result<(), NoMemory> {
+) -> Result<(), Failure> {
     let to = around.receiving(plan.value);
     emit_ops(code, &[TemplateOp::Tee(to), also_left(around, to)])?;
     let line = [
@@ -200,14 +206,14 @@ fn emit_in_range(
     emit_fail_if(alloc, code, around, TemplateOp::I32(OVERFLOW), &plan.fail)
 }
 
-/// Adds what takes the operand for the result of a call, and the fault where it passes the bound.
+/// Emits the code that takes the operand for the result of a call, and the fault where it passes the bound.
 fn emit_within_bound(
     alloc: Global,
     code: &mut Items<Instr>,
     around: &EmitContext<'_>,
     plan: &CallOperation,
     bound: Bound,
-) -> Result<(), NoMemory> {
+) -> Result<(), Failure> {
     let to = around.receiving(plan.value);
     let line = [
         TemplateOp::Tee(to),
@@ -219,7 +225,7 @@ fn emit_within_bound(
     emit_fail_if(alloc, code, around, TemplateOp::I32(OVERFLOW), &plan.fail)
 }
 
-/// Reads the result once more where it is left as an operand below the test.
+/// Reads the result once more where it is left as an operand under the test.
 fn also_left(around: &EmitContext<'_>, to: u32) -> TemplateOp {
     match around.given {
         ResultPlace::Stack => TemplateOp::Get(to),
@@ -232,7 +238,7 @@ fn emit_not(
     code: &mut Items<Instr>,
     around: &EmitContext<'_>,
     plan: &CallOperation,
-) -> Result<(), NoMemory> {
+) -> Result<(), Failure> {
     match around.reading(plan.recv) {
         OperandSource::Truth => emit_ops(code, &[TemplateOp::Do(I32_EQZ)])?,
         _ => emit_ops(code, &[around.operand(plan.recv), TemplateOp::Do(I64_EQZ)])?,
@@ -245,7 +251,7 @@ fn emit_same(
     code: &mut Items<Instr>,
     around: &EmitContext<'_>,
     plan: &CallOperation,
-) -> Result<(), NoMemory> {
+) -> Result<(), Failure> {
     emit_ops(code, &[around.operand(plan.recv), around.put(plan.value)])
 }
 
@@ -254,17 +260,17 @@ fn emit_length_of(
     code: &mut Items<Instr>,
     around: &EmitContext<'_>,
     plan: &CallOperation,
-) -> Result<(), NoMemory> {
+) -> Result<(), Failure> {
     emit_length(code, around, plan)?;
     emit_ops(code, &[around.put(plan.value)])
 }
 
-/// Adds what reads the length of the receiver, as an operand.
+/// Emits the load of the length of the receiver, as an operand.
 fn emit_length(
     code: &mut Items<Instr>,
     around: &EmitContext<'_>,
     plan: &CallOperation,
-) -> Result<(), NoMemory> {
+) -> Result<(), Failure> {
     let line = [
         around.operand(plan.recv),
         TemplateOp::Do(I32_WRAP_I64),
@@ -279,7 +285,7 @@ fn emit_read_element(
     code: &mut Items<Instr>,
     around: &EmitContext<'_>,
     plan: &CallOperation,
-) -> Result<(), NoMemory> {
+) -> Result<(), Failure> {
     let first = first_element_at(around.attributes(plan.class)?);
     emit_within(alloc, code, around, plan)?;
     let line = [TemplateOp::Memory(I64_LOAD, first), around.put(plan.value)];
@@ -292,21 +298,21 @@ fn emit_write_element(
     code: &mut Items<Instr>,
     around: &EmitContext<'_>,
     plan: &CallOperation,
-) -> Result<(), NoMemory> {
+) -> Result<(), Failure> {
     let first = first_element_at(around.attributes(plan.class)?);
     let value = argument(around, plan, 1)?;
     emit_within(alloc, code, around, plan)?;
     emit_ops(code, &[value, TemplateOp::Memory(I64_STORE, first)])
 }
 
-/// Adds the faults of a void array and of a place that is out of range, then what gives the element's address less the offset of
-/// the first one. A void array has the length 0. A negative place is greater than each length when both are taken without signs.
+/// Emits the faults of a void array and of an index that is out of range, then the element's address less the offset of the first one. A
+/// void array has the length 0. A negative index is greater than each length when both are taken without signs.
 fn emit_within(
     alloc: Global,
     code: &mut Items<Instr>,
     around: &EmitContext<'_>,
     plan: &CallOperation,
-) -> Result<(), NoMemory> {
+) -> Result<(), Failure> {
     let place = argument_variable(plan, 0)?;
     emit_ops(code, &[around.first_operand(place)])?;
     emit_length(code, around, plan)?;
@@ -315,13 +321,13 @@ fn emit_within(
     emit_element(code, around.operand(plan.recv), around.same_operand(place))
 }
 
-/// Adds the fault of a void array or of a place that is out of range, where the operand isn't 0.
+/// Emits the fault of a void array or of an index that is out of range, where the operand isn't 0.
 fn emit_index_fault(
     alloc: Global,
     code: &mut Items<Instr>,
     around: &EmitContext<'_>,
     plan: &CallOperation,
-) -> Result<(), NoMemory> {
+) -> Result<(), Failure> {
     let inner = around.further_in()?;
     let mut fault = Items::new(alloc);
     let line = [
@@ -349,7 +355,7 @@ fn emit_runtime_call(
     around: &EmitContext<'_>,
     plan: &CallOperation,
     feature: BuiltinFeature,
-) -> Result<(), NoMemory> {
+) -> Result<(), Failure> {
     emit_operands(code, around, plan)?;
     emit_layout(code, around, plan, feature)?;
     let line = [
@@ -367,28 +373,28 @@ fn emit_runtime_call(
     emit_result(code, around, plan.value)
 }
 
-/// Adds the receiver and the arguments, as operands.
+/// Emits the receiver and the arguments, as operands.
 fn emit_operands(
     code: &mut Items<Instr>,
     around: &EmitContext<'_>,
     plan: &CallOperation,
-) -> Result<(), NoMemory> {
+) -> Result<(), Failure> {
     emit_ops(code, &[around.operand(plan.recv)])?;
     for arg in plan.args.as_slice() {
-        let var = held(arg.var)?;
+        let var = known(arg.var, Invariant::CfgNumber)?;
         emit_ops(code, &[around.operand(var)])?;
     }
     Ok(())
 }
 
-/// Adds what a feature has to know of an array, as operands: the type to make and where its elements begin, or where those of
-/// an `ARRAY{CHAR}` begin, which has no attributes.
+/// Emits what a feature has to know of an array, as operands: the type to make and the offset of its elements, or that of an `ARRAY{CHAR}`,
+/// which has no attributes.
 fn emit_layout(
     code: &mut Items<Instr>,
     around: &EmitContext<'_>,
     plan: &CallOperation,
     feature: BuiltinFeature,
-) -> Result<(), NoMemory> {
+) -> Result<(), Failure> {
     match feature {
         BuiltinFeature::ArrayCreate => {
             let first = first_element_at(around.attributes(plan.class)?);

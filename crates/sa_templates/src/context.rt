@@ -1,13 +1,14 @@
-//! What stands around a step: the program, the body, how deep the step stands in the dispatch, and the locals of the body's
+//! The context of an operation: the program, the body, how deep the operation is nested in the body's code, and the locals of the body's
 //! function.
 //!
-//! A body's function takes its first arguments, its own object, how much deeper activations may nest and its frame, and answers a
-//! status. Its other locals are three of 32 bits, a word for values that nothing reads, the other variables of the body, and for each
-//! site of the body the frame of its instance.
+//! A body's function takes its first arguments, `self`, how much deeper activations may nest and its frame, and returns a status. Its other
+//! locals are three of 32 bits, a word for values that nothing reads, the other variables of the body, and for each site of the body the
+//! frame of its instance.
 
 use crate::nesting::LabelDepth;
 use crate::operand_source::OperandSource;
 use crate::subtype_ranges::SubtypeRanges;
+use failure::{Failure, Invariant, known};
 use sa_cfg::{CfgBody, CfgProgram, FIRST_TEMPORARY};
 use sa_dispatch::ImplementationTable;
 use sa_runtime::layout::PARAMETERS;
@@ -15,11 +16,10 @@ use sa_runtime::template_ops::TemplateOp;
 use sa_runtime::trace::Tracing;
 use sa_stackify::{ResultPlace, SaveSet};
 use std::alloc::Global;
-use wa_syntax::{Locals, NoMemory, ValTy};
+use wa_syntax::{Locals, ValTy};
 
-/// The locals of a body's function that are no variables, behind the parameters that are: its own object, how much deeper activations
-/// may nest, the frame, the number of the block to go on in, a status, an address or the number of a type, and a word that nothing
-/// reads.
+/// The locals of a body's function that are no variables, after the parameters that are: `self`, how much deeper activations may nest, the
+/// frame, the number of the block in which the body continues, a status, an address or the number of a type, and a word that nothing reads.
 const ME: u32 = 0;
 
 const DEPTH: u32 = 1;
@@ -34,25 +34,25 @@ const ADDRESS: u32 = 5;
 
 const WORD: u32 = 6;
 
-/// How many locals stand between the variables that are parameters and the others.
+/// How many locals are between the variables that are parameters and the others.
 const BETWEEN: u32 = 7;
 
 /// How many of these are of 32 bits and no parameters.
 const ADDRESSES: u32 = 3;
 
-/// What a body was made for.
+/// What a body is for.
 #[derive(Clone, Copy)]
 pub enum Role {
     /// A feature.
     Feature,
-    /// An implementation of a signature alone. It hands its faults on to its caller.
+    /// An adapter, for an implementation of a signature. It forwards its faults to its caller.
     Adapter,
-    /// The initialisers of the shareds and the call of `main`.
+    /// The entry: the initialisers of the shareds and the call of `main`.
     Entry,
 }
 
-/// What is the same at each place of the program that is emitted: the flat program, and what was found out about it before the
-/// first instruction.
+/// What is the same at each position of the program that is emitted: the CFG program, and what was found out about it before the first
+/// instruction.
 #[derive(Clone, Copy)]
 pub struct EmitProgram<'a> {
     pub flat: &'a CfgProgram,
@@ -60,69 +60,75 @@ pub struct EmitProgram<'a> {
     pub rows: &'a ImplementationTable,
     /// The address of each text.
     pub texts: &'a [u32],
-    /// For each type the concrete types at or below it.
+    /// For each type the concrete types among it and its subtypes.
     pub below: &'a SubtypeRanges,
     /// The address of each bind's entry.
     pub entries: &'a [u32],
-    /// For each body its place in the table behind those of the rows, if it has one.
+    /// For each body its index in the table after those of the implementation table, if it has one.
     pub places: &'a [Option<u32>],
     /// For each function of the runtime its number in the module, if the program can reach it.
     pub runtime: &'a [Option<u32>],
     /// For each body the number of its function in the module, if the program can reach it.
     pub functions: &'a [Option<u32>],
-    /// Whether the module tells what becomes of the instances of iters.
+    /// Whether the module reports the events of the instances of iters.
     pub tracing: Tracing,
 }
 
 impl<'a> EmitProgram<'a> {
-    /// A body by its number. The answer is `NoMemory` where there is none.
-    pub fn body(&self, number: u32) -> Result<&'a CfgBody, NoMemory> {
-        held(self.flat.bodies.get(number as usize))
+    /// A body by its number. The answer is `Broken` where there is none.
+    pub fn body(&self, number: u32) -> Result<&'a CfgBody, Failure> {
+        known(self.flat.bodies.get(number as usize), Invariant::CfgNumber)
     }
 
-    /// The function of a body, by the body's number. The answer is `NoMemory` where the module has none.
-    pub fn function_of(&self, body: u32) -> Result<u32, NoMemory> {
-        let number = held(self.functions.get(body as usize).copied())?;
-        held(number)
+    /// The function of a body, by the body's number. The answer is `Broken` where the module has none.
+    pub fn function_of(&self, body: u32) -> Result<u32, Failure> {
+        let number = known(
+            self.functions.get(body as usize).copied(),
+            Invariant::CfgNumber,
+        )?;
+        known(number, Invariant::CfgNumber)
     }
 
-    /// The number of the body that does the implementation in this row. The answer is `NoMemory` where there is no such row.
-    pub fn body_of_implementation(&self, row: u32) -> Result<u32, NoMemory> {
-        held(self.flat.targets.get(row as usize).copied())
+    /// The number of the body that does the implementation in this row. The answer is `Broken` where there is no such row.
+    pub fn body_of_implementation(&self, row: u32) -> Result<u32, Failure> {
+        known(
+            self.flat.targets.get(row as usize).copied(),
+            Invariant::CfgNumber,
+        )
     }
 }
 
-/// What stands around a step.
+/// The context of an operation.
 #[derive(Clone, Copy)]
 pub struct EmitContext<'a> {
     pub program: EmitProgram<'a>,
-    /// The body that the step stands in.
+    /// The body of the operation.
     pub body: &'a CfgBody,
-    /// What this body was made for.
+    /// What this body is for.
     pub role: Role,
-    /// For each block of the body whose label can be seen how much stands around what the label is of.
+    /// For each block of the body whose label is in scope the nesting around what the label is of.
     pub labels: &'a [Option<u32>],
-    /// For each block of the body its number, if jumps to it go by way of the choice.
+    /// For each block of the body its number, if jumps to it go by way of the dispatch.
     pub again: &'a [Option<u32>],
-    /// For each block of the body the number by which it is gone on in, if it is.
+    /// For each block of the body the number by which the body continues in it, if it does.
     pub numbers: &'a [Option<u32>],
-    /// How deep the step stands in the code of the body.
+    /// How deep the operation is nested in the code of the body.
     pub nesting: LabelDepth,
     /// How each temporary is read.
     pub readings: &'a [OperandSource],
-    /// What becomes of what the step gives.
+    /// What becomes of the operation's value.
     pub given: ResultPlace,
-    /// Where the step goes on if its instance has ended and it decides the branch behind it at once.
+    /// The block in which the operation continues if its instance has ended and it decides the branch after it at once.
     pub left: Option<u32>,
-    /// What the body keeps while it is suspended.
+    /// What the body saves while it is suspended.
     pub keeping: &'a SaveSet,
-    /// The place of the body's first site among all sites of the program.
+    /// The index of the body's first site among all sites of the program.
     pub first_site: u32,
 }
 
 impl<'a> EmitContext<'a> {
-    /// Around a place in a block of code that is opened here.
-    pub fn further_in(&self) -> Result<EmitContext<'a>, NoMemory> {
+    /// The context of a position in a block of code that is opened here.
+    pub fn further_in(&self) -> Result<EmitContext<'a>, Failure> {
         let nesting = self.nesting.further_in(1)?;
         Ok(EmitContext { nesting, ..*self })
     }
@@ -137,12 +143,12 @@ impl<'a> EmitContext<'a> {
         site_local(self.body, site)
     }
 
-    /// The place of a site among all sites of the program. The answer is `NoMemory` where 32 bits don't hold it.
-    pub fn place_of_site(&self, site: u32) -> Result<u32, NoMemory> {
-        held(self.first_site.checked_add(site))
+    /// The place of a site among all sites of the program. The answer is `Broken` where 32 bits don't hold it.
+    pub fn place_of_site(&self, site: u32) -> Result<u32, Failure> {
+        known(self.first_site.checked_add(site), Invariant::CfgNumber)
     }
 
-    /// The local with the body's own object.
+    /// The local with the body's `self`.
     pub fn me(&self) -> u32 {
         self_local(self.body)
     }
@@ -157,12 +163,12 @@ impl<'a> EmitContext<'a> {
         frame_local(self.body)
     }
 
-    /// The local with the number of the block to go on in.
+    /// The local with the number of the block in which the body continues.
     pub fn block(&self) -> u32 {
         block_local(self.body)
     }
 
-    /// The local with the status that a call answered.
+    /// The local with the status that a call returned.
     pub fn status(&self) -> u32 {
         behind_parameters(self.body, STATUS)
     }
@@ -225,7 +231,7 @@ impl<'a> EmitContext<'a> {
         }
     }
 
-    /// Takes the operand for what the step gives.
+    /// Takes the operand for the operation's value.
     pub fn put(&self, var: Option<u32>) -> TemplateOp {
         match self.given {
             ResultPlace::Stack => TemplateOp::Here,
@@ -233,15 +239,21 @@ impl<'a> EmitContext<'a> {
         }
     }
 
-    /// Calls a function of the runtime. The answer is `NoMemory` where the module has none.
-    pub fn runtime(&self, function: u32) -> Result<TemplateOp, NoMemory> {
-        let number = held(self.program.runtime.get(function as usize).copied())?;
-        Ok(TemplateOp::Call(held(number)?))
+    /// Calls a function of the runtime. The answer is `Broken` where the module has none.
+    pub fn runtime(&self, function: u32) -> Result<TemplateOp, Failure> {
+        let number = known(
+            self.program.runtime.get(function as usize).copied(),
+            Invariant::CfgNumber,
+        )?;
+        Ok(TemplateOp::Call(known(number, Invariant::CfgNumber)?))
     }
 
     /// The number of attributes of a type.
-    pub fn attributes(&self, ty: u32) -> Result<u32, NoMemory> {
-        held(self.program.flat.types.get(ty as usize).copied())
+    pub fn attributes(&self, ty: u32) -> Result<u32, Failure> {
+        known(
+            self.program.flat.types.get(ty as usize).copied(),
+            Invariant::CfgNumber,
+        )
     }
 }
 
@@ -250,12 +262,12 @@ pub fn parameters_of(body: &CfgBody) -> u32 {
     body.formals.len().min(PARAMETERS) as u32
 }
 
-/// A local behind the variables that are parameters.
+/// A local after the variables that are parameters.
 fn behind_parameters(body: &CfgBody, place: u32) -> u32 {
     parameters_of(body).saturating_add(place)
 }
 
-/// The local with the body's own object.
+/// The local with the body's `self`.
 pub fn self_local(body: &CfgBody) -> u32 {
     behind_parameters(body, ME)
 }
@@ -270,7 +282,7 @@ pub fn frame_local(body: &CfgBody) -> u32 {
     behind_parameters(body, FRAME)
 }
 
-/// The local with the number of the block to go on in.
+/// The local with the number of the block in which the body continues.
 pub fn block_local(body: &CfgBody) -> u32 {
     behind_parameters(body, BLOCK)
 }
@@ -293,7 +305,7 @@ pub fn local_of(body: &CfgBody, var: u32) -> u32 {
         .saturating_add(BETWEEN)
 }
 
-/// The local with the frame of a site's instance, which is 0 where the site has none. They stand behind the words.
+/// The local with the frame of a site's instance, which is 0 where the site has none. They come after the words.
 pub fn site_local(body: &CfgBody, site: u32) -> u32 {
     let following = body.temporaries.max(FIRST_TEMPORARY);
     local_of(body, following).saturating_add(site)
@@ -303,12 +315,12 @@ pub fn site_local(body: &CfgBody, site: u32) -> u32 {
 ///
 /// # Errors
 ///
-/// `NoMemory`, also where 32 bits don't hold their number.
-pub fn locals_of(alloc: Global, body: &CfgBody) -> Result<Locals, NoMemory> {
+/// A `Failure`: `Broken` where 32 bits don't hold their number.
+pub fn locals_of(alloc: Global, body: &CfgBody) -> Result<Locals, Failure> {
     let temporaries = body.temporaries.saturating_sub(FIRST_TEMPORARY);
     let others = body.variable_count.saturating_sub(parameters_of(body));
-    let words = held(others.checked_add(temporaries))?;
-    let words = held(words.checked_add(1))?;
+    let words = known(others.checked_add(temporaries), Invariant::CfgNumber)?;
+    let words = known(words.checked_add(1), Invariant::CfgNumber)?;
     let mut locals = Locals::new(alloc);
     locals.push(ADDRESSES, ValTy::I32)?;
     locals.push(words, ValTy::I64)?;
@@ -316,9 +328,4 @@ pub fn locals_of(alloc: Global, body: &CfgBody) -> Result<Locals, NoMemory> {
         locals.push(body.sites, ValTy::I32)?;
     }
     Ok(locals)
-}
-
-/// What is there by the way that the flat program was made. Where it isn't, memory is said to have run out.
-pub fn held<T>(found: Option<T>) -> Result<T, NoMemory> {
-    found.ok_or(NoMemory)
 }

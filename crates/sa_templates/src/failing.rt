@@ -1,7 +1,8 @@
-//! Faults and raises of steps, and jumps to blocks.
+//! Faults and raises of operations, and jumps to blocks.
 
 use crate::conditionals::emit_if;
-use crate::context::{EmitContext, Role, held};
+use crate::context::{EmitContext, Role};
+use failure::{Failure, Invariant, known};
 use sa_cfg::{FaultExit, Handler};
 use sa_runtime::fault_numbers::VOID;
 use sa_runtime::layout::{
@@ -11,42 +12,42 @@ use sa_runtime::template_ops::{TemplateOp, emit_ops};
 use sa_structure::leaves;
 use sqlite_items::Items;
 use std::alloc::Global;
+use wa_syntax::Instr;
 use wa_syntax::opcode::{I64_EQZ, I64_EXTEND_I32_U, RETURN};
-use wa_syntax::{Instr, NoMemory};
 
-/// Adds a fault where the operand isn't 0. `kind` reads its number.
+/// Emits a fault where the operand isn't 0. `kind` reads its number.
 pub fn emit_fail_if(
     alloc: Global,
     code: &mut Items<Instr>,
     around: &EmitContext<'_>,
     kind: TemplateOp,
     fail: &FaultExit,
-) -> Result<(), NoMemory> {
+) -> Result<(), Failure> {
     let inner = around.further_in()?;
     let mut then = Items::new(alloc);
     emit_fail(&mut then, &inner, kind, fail)?;
     emit_if(alloc, code, then)
 }
 
-/// Adds the fault of a variable that holds void.
+/// Emits the fault of a variable whose value is void.
 pub fn emit_void_test(
     alloc: Global,
     code: &mut Items<Instr>,
     around: &EmitContext<'_>,
     var: u32,
     fail: &FaultExit,
-) -> Result<(), NoMemory> {
+) -> Result<(), Failure> {
     emit_ops(code, &[around.first_operand(var), TemplateOp::Do(I64_EQZ)])?;
     emit_fail_if(alloc, code, around, TemplateOp::I32(VOID), fail)
 }
 
-/// Adds a fault: a body that was made for an implementation alone hands it to its caller, in others it is raised.
+/// Emits a fault: an adapter forwards it to its caller, in other bodies it is raised.
 pub fn emit_fail(
     code: &mut Items<Instr>,
     around: &EmitContext<'_>,
     kind: TemplateOp,
     fail: &FaultExit,
-) -> Result<(), NoMemory> {
+) -> Result<(), Failure> {
     match around.role {
         Role::Adapter => emit_forward(code, kind),
         Role::Feature => emit_fault(code, around, kind, fail),
@@ -54,8 +55,8 @@ pub fn emit_fail(
     }
 }
 
-/// Adds what hands a fault to the caller. `kind` reads its number.
-pub fn emit_forward(code: &mut Items<Instr>, kind: TemplateOp) -> Result<(), NoMemory> {
+/// Emits the code that forwards a fault to the caller. `kind` reads its number.
+pub fn emit_forward(code: &mut Items<Instr>, kind: TemplateOp) -> Result<(), Failure> {
     let line = [
         kind,
         TemplateOp::SetGlobal(FAULT_KIND),
@@ -70,7 +71,7 @@ fn emit_fault(
     around: &EmitContext<'_>,
     kind: TemplateOp,
     fail: &FaultExit,
-) -> Result<(), NoMemory> {
+) -> Result<(), Failure> {
     let line = [
         kind,
         TemplateOp::I32(fail.place),
@@ -81,13 +82,13 @@ fn emit_fault(
     emit_raise(code, around, &fail.raised)
 }
 
-/// Adds a raise whose value, place and kind the globals hold: it leaves the body at once where the block that it goes to does
-/// nothing else.
+/// Emits a raise whose value, position and kind the globals have: it leaves the body at once where the block that it goes to does nothing
+/// else.
 pub fn emit_raise(
     code: &mut Items<Instr>,
     around: &EmitContext<'_>,
     raised: &Handler,
-) -> Result<(), NoMemory> {
+) -> Result<(), Failure> {
     if leaves(around.body, *raised) {
         return emit_ops(code, &[TemplateOp::I32(RAISED), TemplateOp::Do(RETURN)]);
     }
@@ -105,17 +106,17 @@ pub fn emit_raise(
     emit_jump(code, around, raised.block)
 }
 
-/// Adds a jump to a block: out of the part before it, to the beginning of its loop, or by way of the choice.
+/// Emits a jump to a block: out of the labelled block before it, to the beginning of its loop, or by way of the dispatch.
 ///
 /// # Errors
 ///
-/// `NoMemory`, also where the block isn't jumped to.
+/// A `Failure`: `Broken` where the block isn't jumped to.
 pub fn emit_jump(
     code: &mut Items<Instr>,
     around: &EmitContext<'_>,
     block: u32,
-) -> Result<(), NoMemory> {
-    match held(jump_to(around, block))? {
+) -> Result<(), Failure> {
+    match known(jump_to(around, block), Invariant::CfgNumber)? {
         Jump::Label(depth) => emit_ops(code, &[TemplateOp::Br(around.nesting.label(depth)?)]),
         Jump::Choice(number) => {
             let line = [
@@ -131,9 +132,9 @@ pub fn emit_jump(
 /// How a block is jumped to.
 #[derive(Clone, Copy, Debug, PartialEq, Eq)]
 pub enum Jump {
-    /// To its label, around which so much stands.
+    /// To its label, at this nesting.
     Label(u32),
-    /// By way of the choice, by its number there.
+    /// By way of the dispatch, by its number there.
     Choice(u32),
 }
 
@@ -146,12 +147,15 @@ pub fn jump_to(around: &EmitContext<'_>, block: u32) -> Option<Jump> {
     around.labels.get(place).copied().flatten().map(Jump::Label)
 }
 
-/// The number by which a block is gone on in.
+/// The number by which the body continues in a block.
 ///
 /// # Errors
 ///
-/// `NoMemory` where it has none.
-pub fn target_number(around: &EmitContext<'_>, block: u32) -> Result<u32, NoMemory> {
-    let number = held(around.numbers.get(block as usize).copied())?;
-    held(number)
+/// `Broken` where it has none.
+pub fn target_number(around: &EmitContext<'_>, block: u32) -> Result<u32, Failure> {
+    let number = known(
+        around.numbers.get(block as usize).copied(),
+        Invariant::CfgNumber,
+    )?;
+    known(number, Invariant::CfgNumber)
 }

@@ -1,10 +1,9 @@
-//! How deep a place stands in the code of a body.
+//! How deep a position is nested in the code of a body.
 
-use crate::context::held;
-use wa_syntax::NoMemory;
+use failure::{Failure, Invariant, known};
 
-/// How many blocks, loops and conditions stand around a place in the code of a body. It is handed down, and is one more in each
-/// block that stands further in.
+/// How many blocks, loops and conditions are around a position in the code of a body. It is passed down, and is one more in each block that
+/// is further in.
 #[derive(Clone, Copy, Debug, PartialEq, Eq)]
 pub struct LabelDepth(u32);
 
@@ -14,22 +13,29 @@ impl LabelDepth {
         LabelDepth(0)
     }
 
-    /// So many blocks further in. The answer is `NoMemory` where 32 bits don't hold how deep that is.
-    pub fn further_in(self, blocks: u32) -> Result<LabelDepth, NoMemory> {
-        Ok(LabelDepth(held(self.0.checked_add(blocks))?))
+    /// So many blocks further in. The answer is `Broken` where 32 bits don't hold how deep that is.
+    pub fn further_in(self, blocks: u32) -> Result<LabelDepth, Failure> {
+        Ok(LabelDepth(known(self.0.checked_add(blocks), Invariant::LabelDepth)?))
     }
 
-    /// How much stands around the place.
+    /// How much is around the position.
     pub fn depth(self) -> u32 {
         self.0
     }
 
-    /// The label at this place of what so many others stand around. The answer is `NoMemory` where the place isn't inside that.
-    pub fn label(self, around: u32) -> Result<u32, NoMemory> {
-        held(held(self.0.checked_sub(around))?.checked_sub(1))
+    /// The label, at this position, of what encloses it `around` levels further out.
+    ///
+    /// # Errors
+    ///
+    /// `Broken` where the position isn't enclosed by that many.
+    pub fn label(self, around: u32) -> Result<u32, Failure> {
+        known(
+            known(self.0.checked_sub(around), Invariant::LabelDepth)?.checked_sub(1),
+            Invariant::LabelDepth,
+        )
     }
 
-    /// The label of what stands around the code of the body.
+    /// The label of the block around the code of the body.
     pub fn outer_label(self) -> u32 {
         self.0
     }

@@ -1,4 +1,4 @@
-//! Steps that make objects, and those that widen immutable values and give them back.
+//! Operations that make objects, and those that box and unbox immutable values.
 
 use crate::area::emit_result;
 use crate::builtins::CREATE;
@@ -6,6 +6,7 @@ use crate::conditionals::emit_if_else;
 use crate::context::{EmitContext, Role};
 use crate::failing::emit_fail_if;
 use crate::operand_source::OperandSource;
+use failure::Failure;
 use sa_cfg::FaultExit;
 use sa_runtime::fault_numbers::NO_ROOM;
 use sa_runtime::layout::{
@@ -15,11 +16,11 @@ use sa_runtime::layout::{
 use sa_runtime::template_ops::{TemplateOp, emit_ops};
 use sqlite_items::Items;
 use std::alloc::Global;
+use wa_syntax::Instr;
 use wa_syntax::opcode::{
     DROP, I32_EQZ, I32_WRAP_I64, I64_ADD, I64_AND, I64_EQ, I64_EXTEND_I32_U, I64_LOAD, I64_SHL,
     I64_SHR_U, I64_STORE,
 };
-use wa_syntax::{Instr, NoMemory};
 
 /// A new object with an array part: the variable that gets it, its type, and the variable with the number of elements.
 #[derive(Clone, Copy, Debug, PartialEq, Eq)]
@@ -29,7 +30,7 @@ pub struct NewArray {
     pub count: u32,
 }
 
-/// A value of the immutable class `ty` that is widened: the variable that gets it, and the one that has it.
+/// A value of the immutable class `ty` that is boxed: the variable that gets it, and the one that has it.
 #[derive(Clone, Copy, Debug, PartialEq, Eq)]
 pub struct Boxing {
     pub to: u32,
@@ -45,7 +46,7 @@ pub fn emit_new(
     to: u32,
     ty: u32,
     fail: &FaultExit,
-) -> Result<(), NoMemory> {
+) -> Result<(), Failure> {
     let size = attribute_at(around.attributes(ty)?);
     let line = [
         TemplateOp::I64(header(ty, OBJECT, 0)),
@@ -71,7 +72,7 @@ pub fn emit_new_array(
     around: &EmitContext<'_>,
     array: NewArray,
     fail: &FaultExit,
-) -> Result<(), NoMemory> {
+) -> Result<(), Failure> {
     let first = first_element_at(around.attributes(array.ty)?);
     let line = [
         TemplateOp::I64(0),
@@ -86,7 +87,7 @@ pub fn emit_new_array(
     emit_result(code, around, Some(array.to))
 }
 
-/// An element of an array literal, whose place is in range.
+/// An element of an array literal, whose index is in range.
 pub fn emit_set_element(
     code: &mut Items<Instr>,
     around: &EmitContext<'_>,
@@ -94,7 +95,7 @@ pub fn emit_set_element(
     ty: u32,
     at: u32,
     value: u32,
-) -> Result<(), NoMemory> {
+) -> Result<(), Failure> {
     let first = first_element_at(around.attributes(ty)?);
     let offset = match around.reading(at) {
         OperandSource::Word(place) => constant_offset(first, place),
@@ -111,19 +112,19 @@ pub fn emit_set_element(
     )
 }
 
-/// Where an element lies in its object, by its place and where the first one lies, if 32 bits hold that.
+/// The offset of an element in its object, by its index and the offset of the first one, if it fits 32 bits.
 fn constant_offset(first: u32, place: u64) -> Option<u32> {
     let bytes = place.checked_mul(8)?.checked_add(u64::from(first))?;
     u32::try_from(bytes).ok()
 }
 
-/// Adds what gives the address of an element of an object less the offset of the first one, as an operand.
-/// `object` and `place` read the two.
+/// Emits the address of an element of an object less the offset of the first one, as an operand. `object` and `place` read the object and
+/// the index.
 pub(crate) fn emit_element(
     code: &mut Items<Instr>,
     object: TemplateOp,
     place: TemplateOp,
-) -> Result<(), NoMemory> {
+) -> Result<(), Failure> {
     let line = [
         object,
         place,
@@ -135,15 +136,14 @@ pub(crate) fn emit_element(
     emit_ops(code, &line)
 }
 
-/// An immutable value at an abstract type. An argument of a body that was made for an implementation may be one that a bind
-/// has widened, and is marked so.
+/// An immutable value at an abstract type. An argument of an adapter may be one that a bind has boxed, and is marked so.
 pub fn emit_box(
     alloc: Global,
     code: &mut Items<Instr>,
     around: &EmitContext<'_>,
     widening: Boxing,
     fail: &FaultExit,
-) -> Result<(), NoMemory> {
+) -> Result<(), Failure> {
     if !may_be_marked(around, widening.from) {
         return emit_boxing(alloc, code, around, widening, fail);
     }
@@ -156,12 +156,12 @@ pub fn emit_box(
     emit_if_else(alloc, code, marked, unmarked)
 }
 
-/// Adds the test whether a value is one that a bind has widened, as an operand.
+/// Emits the test whether a value is one that a bind has boxed, as an operand.
 fn emit_is_marked(
     code: &mut Items<Instr>,
     around: &EmitContext<'_>,
     from: u32,
-) -> Result<(), NoMemory> {
+) -> Result<(), Failure> {
     let line = [
         around.operand(from),
         TemplateOp::I64(HALF_BITS),
@@ -172,12 +172,12 @@ fn emit_is_marked(
     emit_ops(code, &line)
 }
 
-/// Adds what takes the mark off a value that a bind has widened.
+/// Emits the code that takes the mark off a value that a bind has boxed.
 fn emit_unmark(
     code: &mut Items<Instr>,
     around: &EmitContext<'_>,
     widening: Boxing,
-) -> Result<(), NoMemory> {
+) -> Result<(), Failure> {
     let line = [
         around.operand(widening.from),
         TemplateOp::I64(LOW_HALF),
@@ -187,7 +187,7 @@ fn emit_unmark(
     emit_ops(code, &line)
 }
 
-/// Whether a variable may hold a value that a bind has widened.
+/// Whether the value of a variable may be one that a bind has boxed.
 fn may_be_marked(around: &EmitContext<'_>, var: u32) -> bool {
     match around.role {
         Role::Adapter => (var as usize) < around.body.formals.len(),
@@ -196,26 +196,26 @@ fn may_be_marked(around: &EmitContext<'_>, var: u32) -> bool {
     }
 }
 
-/// Adds what widens a value.
+/// Emits the code that boxes a value.
 fn emit_boxing(
     alloc: Global,
     code: &mut Items<Instr>,
     around: &EmitContext<'_>,
     widening: Boxing,
     fail: &FaultExit,
-) -> Result<(), NoMemory> {
+) -> Result<(), Failure> {
     emit_boxed(code, around, widening.from, widening.ty)?;
     emit_fail_if(alloc, code, around, TemplateOp::Get(around.status()), fail)?;
     emit_result(code, around, Some(widening.to))
 }
 
-/// Adds the call that widens, which leaves its status in the local and as an operand.
+/// Emits the call that boxes, which leaves its status in the local and as an operand.
 pub fn emit_boxed(
     code: &mut Items<Instr>,
     around: &EmitContext<'_>,
     from: u32,
     ty: u32,
-) -> Result<(), NoMemory> {
+) -> Result<(), Failure> {
     if is_one_word(ty) {
         let line = [
             around.operand(from),
@@ -236,14 +236,14 @@ pub fn emit_boxed(
     emit_ops(code, &line)
 }
 
-/// A widened value at its own class.
+/// A boxed value at its own class.
 pub fn emit_unbox(
     code: &mut Items<Instr>,
     around: &EmitContext<'_>,
     to: u32,
     from: u32,
     ty: u32,
-) -> Result<(), NoMemory> {
+) -> Result<(), Failure> {
     if is_one_word(ty) {
         return emit_unboxed(code, around, to, from);
     }
@@ -260,26 +260,26 @@ pub fn emit_unbox(
     emit_ops(code, &line)
 }
 
-/// Adds the void value of a class without attributes in place of the widened one.
+/// Emits the void value of a class without attributes in place of the boxed one.
 fn emit_void(
     code: &mut Items<Instr>,
     around: &EmitContext<'_>,
     to: u32,
     from: u32,
-) -> Result<(), NoMemory> {
+) -> Result<(), Failure> {
     if around.is_operand(from) {
         emit_ops(code, &[TemplateOp::Do(DROP)])?;
     }
     emit_ops(code, &[TemplateOp::I64(0), around.put(Some(to))])
 }
 
-/// Adds what reads the word of a widened `INT`, `BOOL` or `CHAR`.
+/// Emits the load of the word of a boxed `INT`, `BOOL` or `CHAR`.
 fn emit_unboxed(
     code: &mut Items<Instr>,
     around: &EmitContext<'_>,
     to: u32,
     from: u32,
-) -> Result<(), NoMemory> {
+) -> Result<(), Failure> {
     let line = [
         around.operand(from),
         TemplateOp::Do(I32_WRAP_I64),

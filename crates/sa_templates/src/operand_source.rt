@@ -7,7 +7,7 @@ pub enum OperandSource {
     Local,
     /// It is this constant.
     Word(u64),
-    /// It is the body's own object.
+    /// It is `self`.
     SelfRef,
     /// It is an operand already.
     Operand,

@@ -1,11 +1,10 @@
-//! For each type the concrete types at or below it, as spans of neighbouring numbers. Only values of concrete types come
-//! about, so a test of a value's type is a test of its number against these spans.
+//! For each type the concrete types among it and its subtypes, as ranges of consecutive numbers. Only values of concrete types come about,
+//! so a test of a value's type is a test of its number against these ranges.
 
-use crate::context::held;
+use failure::{Failure, Invariant, known};
 use sa_ast::ClassKind;
 use sa_cfg::{CfgProgram, TypeLayout};
 use std::alloc::Global;
-use wa_syntax::NoMemory;
 
 /// Types whose numbers follow one another.
 #[derive(Clone, Copy)]
@@ -16,19 +15,19 @@ pub struct TypeRange {
     pub greatest: u32,
 }
 
-/// For each type the concrete types at or below it.
+/// For each type the concrete types among it and its subtypes.
 #[derive(Drop)]
 pub struct SubtypeRanges {
     spans: Vec<Vec<TypeRange>>,
 }
 
 impl SubtypeRanges {
-    /// Those of the types of a program, in one pass over their layouts and the types above each.
+    /// Those of the types of a program, in one pass over their layouts and the supertypes of each.
     ///
     /// # Errors
     ///
-    /// `NoMemory`, also where 32 bits don't hold the number of types, or a layout names a type that isn't there.
-    pub fn of(alloc: Global, flat: &CfgProgram) -> Result<SubtypeRanges, NoMemory> {
+    /// A `Failure`: `Broken` where 32 bits don't hold the number of types, or a layout names a type that isn't there.
+    pub fn of(alloc: Global, flat: &CfgProgram) -> Result<SubtypeRanges, Failure> {
         let layouts = flat.layouts.as_slice();
         let mut below = SubtypeRanges {
             spans: Vec::new(alloc),
@@ -42,7 +41,7 @@ impl SubtypeRanges {
         Ok(below)
     }
 
-    /// The concrete types at or below a type, in rising spans that don't touch: none where there is no such type.
+    /// The concrete types among a type and its subtypes, in rising ranges that don't touch: none where there is no such type.
     pub fn spans(&self, ty: u32) -> &[TypeRange] {
         match self.spans.get(ty as usize) {
             Some(spans) => spans.as_slice(),
@@ -50,12 +49,12 @@ impl SubtypeRanges {
         }
     }
 
-    /// Adds the next type to those that it is at or below.
-    fn add_layout(&mut self, place: usize, layout: &TypeLayout) -> Result<(), NoMemory> {
+    /// Adds the next type to the lists of its supertypes and of itself.
+    fn add_layout(&mut self, place: usize, layout: &TypeLayout) -> Result<(), Failure> {
         if !is_concrete(layout.kind) {
             return Ok(());
         }
-        let ty = held(u32::try_from(place).ok())?;
+        let ty = known(u32::try_from(place).ok(), Invariant::CfgNumber)?;
         self.add(ty, ty)?;
         for above in layout.above.as_slice() {
             self.add(*above, ty)?;
@@ -63,15 +62,16 @@ impl SubtypeRanges {
         Ok(())
     }
 
-    /// Adds a type to those below another one. It is greater than those that were added before.
-    fn add(&mut self, above: u32, ty: u32) -> Result<(), NoMemory> {
-        let spans = held(self.spans.get_mut(above as usize))?;
+    /// Adds a type to the list of another one, of which it is a subtype or which it is. Its number is greater than those that were added
+    /// before.
+    fn add(&mut self, above: u32, ty: u32) -> Result<(), Failure> {
+        let spans = known(self.spans.get_mut(above as usize), Invariant::CfgNumber)?;
         add_type(spans, ty)
     }
 }
 
-/// The spans of rising types.
-pub fn ranges_of(alloc: Global, types: &[u32]) -> Result<Vec<TypeRange>, NoMemory> {
+/// The ranges of rising types.
+pub fn ranges_of(alloc: Global, types: &[u32]) -> Result<Vec<TypeRange>, Failure> {
     let mut spans = Vec::new(alloc);
     for ty in types {
         add_type(&mut spans, *ty)?;
@@ -84,8 +84,8 @@ fn is_concrete(kind: ClassKind) -> bool {
     matches!(kind, ClassKind::Reference | ClassKind::Immutable)
 }
 
-/// Adds a type that is greater than those of the spans.
-fn add_type(spans: &mut Vec<TypeRange>, ty: u32) -> Result<(), NoMemory> {
+/// Adds a type that is greater than those of the ranges.
+fn add_type(spans: &mut Vec<TypeRange>, ty: u32) -> Result<(), Failure> {
     if let Some(last) = spans.last_mut() {
         if last.greatest.checked_add(1) == Some(ty) {
             last.greatest = ty;

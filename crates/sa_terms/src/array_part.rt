@@ -1,4 +1,4 @@
-//! Whether objects of a class have an array part, and of what type its elements are.
+//! Whether objects of a class have an array part, and the type of its elements.
 
 use crate::terms::TypeTerms;
 use sa_ast::{Feature, FeatureBody, Ty};

@@ -1,16 +1,17 @@
-//! What a class writes, once for all its instances.
+//! What a class declares, computed once for all its instances.
 
 use crate::array_part::{element_of, has_array};
 use crate::member_names::MemberNames;
 use crate::members::{Member, members_of};
 use crate::numbered::FeatureCounts;
 use crate::terms::TypeTerms;
-use sa_ast::{Class, NoMemory, Ty};
+use failure::Failure;
+use sa_ast::{Class, Ty};
 use sqlite_items::Items;
 use std::alloc::Global;
 
-/// What a class writes, once for all its instances: its different types, which are its terms, and its features by name and
-/// by what they are.
+/// The table of a class, computed once for all its instances: the distinct types that the class writes, which are its terms, and its
+/// features by name and by what they are.
 ///
 /// The term 0 is the class itself, the term 1 is INT, and the types that the class writes are the terms from 2 on.
 #[derive(Drop)]
@@ -26,8 +27,9 @@ pub struct ClassTable<'a> {
 }
 
 impl<'a> ClassTable<'a> {
-    /// The table of a class whose features are all that it has. It fails only where memory runs out.
-    pub fn make(alloc: Global, class: &'a Class) -> Result<ClassTable<'a>, NoMemory> {
+    /// The table of a class whose features are all that it has. It fails where memory runs out, or with
+    /// `Broken` where its tables lack an entry for each other, which no class causes.
+    pub fn make(alloc: Global, class: &'a Class) -> Result<ClassTable<'a>, Failure> {
         let terms = TypeTerms::of_class(alloc, class)?;
         let members = members_of(alloc, class, &terms)?;
         let names = MemberNames::of_members(alloc, class, members.as_slice())?;
@@ -54,8 +56,8 @@ impl<'a> ClassTable<'a> {
         self.terms.count()
     }
 
-    /// A type that the class writes, by its place among them. They stand in text order, each at its first place and before
-    /// those inside it.
+    /// A type that the class writes, by its index among them. They are in text order, each at its first occurrence and before the types
+    /// nested in it.
     pub fn written_at(&self, place: usize) -> Option<&'a Ty> {
         self.terms.at(place)
     }
@@ -70,22 +72,22 @@ impl<'a> ClassTable<'a> {
         self.members.as_slice()
     }
 
-    /// The places of the members with a name, in order.
+    /// The indices of the members with a name, in order.
     pub fn named(&self, name: &[u8]) -> &[u32] {
         self.names.places(name)
     }
 
-    /// The place of a feature among the routines and iters with a body.
+    /// The index of a feature among the routines and iters with a body.
     pub fn body(&self, feature: u32) -> Option<u32> {
         self.counted.bodies.place(feature)
     }
 
-    /// The place of a feature among the shareds.
+    /// The index of a feature among the shareds.
     pub fn shared(&self, feature: u32) -> Option<u32> {
         self.counted.shareds.place(feature)
     }
 
-    /// The place of a feature among the attributes.
+    /// The index of a feature among the attributes.
     pub fn slot(&self, feature: u32) -> Option<u32> {
         self.counted.attributes.place(feature)
     }
@@ -100,12 +102,12 @@ impl<'a> ClassTable<'a> {
         self.counted.shareds.features().len()
     }
 
-    /// The places among the features of those that are attributes, in order.
+    /// The indices among the features of those that are attributes, in order.
     pub fn attributes(&self) -> &[u32] {
         self.counted.attributes.features()
     }
 
-    /// The term of an attribute's type, by its place among the attributes.
+    /// The term of an attribute's type, by its index among the attributes.
     pub fn attribute_term(&self, slot: u32) -> Option<u32> {
         self.counted.attribute_terms.get(slot as usize).copied()
     }

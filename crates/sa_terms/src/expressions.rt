@@ -1,23 +1,24 @@
 //! The types that expressions write.
 
 use crate::terms::{TypeTerms, optional_type, written};
-use sa_ast::{Expr, ExprArg, ExprReceiver, NoMemory};
+use failure::Failure;
+use sa_ast::{Expr, ExprArg, ExprReceiver};
 use sqlite_items::Boxed;
 
 /// The types of an expression, if there is one.
 pub(crate) fn optional_expr<'a>(
     terms: &mut TypeTerms<'a>,
     value: &'a Option<Expr>,
-) -> Result<(), NoMemory> {
+) -> Result<(), Failure> {
     match value {
         None => Ok(()),
         Some(value) => expr(terms, value),
     }
 }
 
-/// The types of an expression, put at the end of those that the class writes before it.
+/// The types of an expression, appended to those that the class writes before it.
 #[cycle(expr)]
-pub(crate) fn expr<'a>(terms: &mut TypeTerms<'a>, value: &'a Expr) -> Result<(), NoMemory> {
+pub(crate) fn expr<'a>(terms: &mut TypeTerms<'a>, value: &'a Expr) -> Result<(), Failure> {
     match value {
         Expr::IsVoid(of, _) => expr(terms, of.get()),
         Expr::New(count, _) => boxed_expr(terms, count),
@@ -46,7 +47,7 @@ pub(crate) fn expr<'a>(terms: &mut TypeTerms<'a>, value: &'a Expr) -> Result<(),
 
 /// The types of expressions in order.
 #[cycle(expr)]
-pub(crate) fn exprs<'a>(terms: &mut TypeTerms<'a>, list: &'a [Expr]) -> Result<(), NoMemory> {
+pub(crate) fn exprs<'a>(terms: &mut TypeTerms<'a>, list: &'a [Expr]) -> Result<(), Failure> {
     for each in list {
         expr(terms, each)?;
     }
@@ -57,7 +58,7 @@ pub(crate) fn exprs<'a>(terms: &mut TypeTerms<'a>, list: &'a [Expr]) -> Result<(
 fn boxed_expr<'a>(
     terms: &mut TypeTerms<'a>,
     value: &'a Option<Boxed<Expr>>,
-) -> Result<(), NoMemory> {
+) -> Result<(), Failure> {
     match value {
         None => Ok(()),
         Some(value) => expr(terms, value.get()),
@@ -65,7 +66,7 @@ fn boxed_expr<'a>(
 }
 
 #[cycle(expr)]
-fn receiver<'a>(terms: &mut TypeTerms<'a>, on: &'a ExprReceiver) -> Result<(), NoMemory> {
+fn receiver<'a>(terms: &mut TypeTerms<'a>, on: &'a ExprReceiver) -> Result<(), Failure> {
     match on {
         ExprReceiver::Implied => Ok(()),
         ExprReceiver::Of(value) => expr(terms, value.get()),
@@ -74,7 +75,7 @@ fn receiver<'a>(terms: &mut TypeTerms<'a>, on: &'a ExprReceiver) -> Result<(), N
 }
 
 #[cycle(expr)]
-fn arguments<'a>(terms: &mut TypeTerms<'a>, list: &'a [ExprArg]) -> Result<(), NoMemory> {
+fn arguments<'a>(terms: &mut TypeTerms<'a>, list: &'a [ExprArg]) -> Result<(), Failure> {
     for each in list {
         argument(terms, each)?;
     }
@@ -82,7 +83,7 @@ fn arguments<'a>(terms: &mut TypeTerms<'a>, list: &'a [ExprArg]) -> Result<(), N
 }
 
 #[cycle(expr)]
-fn argument<'a>(terms: &mut TypeTerms<'a>, given: &'a ExprArg) -> Result<(), NoMemory> {
+fn argument<'a>(terms: &mut TypeTerms<'a>, given: &'a ExprArg) -> Result<(), Failure> {
     match given {
         ExprArg::Value(_, value) => expr(terms, value),
         ExprArg::Unbound(ty, _) => optional_type(terms, ty),

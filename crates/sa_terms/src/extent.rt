@@ -1,4 +1,4 @@
-//! How deep a type is, and how many types it is made of.
+//! How deep a type is, and of how many types it consists.
 
 use sa_ast::{ModeTy, Ty};
 use sqlite_items::Boxed;
@@ -6,7 +6,7 @@ use sqlite_items::Boxed;
 /// The greatest depth of a type.
 pub const DEEPEST: u32 = 8;
 
-/// The depth of a type: 1 where no types are inside, else one more than that of the deepest type inside.
+/// The depth of a type: 1 where no types are nested in it, else one more than that of the deepest nested type.
 #[cycle(depth)]
 pub fn depth(ty: &Ty) -> u32 {
     let inside = match ty {
@@ -44,7 +44,7 @@ fn depth_of_result(of: &Option<Boxed<Ty>>) -> u32 {
     }
 }
 
-/// How many types a type is made of, itself included, counted once for each place.
+/// Of how many types a type consists, itself included, each occurrence counted.
 #[cycle(size)]
 pub fn size(ty: &Ty) -> u64 {
     let inside = match ty {

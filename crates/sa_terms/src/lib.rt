@@ -1,5 +1,5 @@
-//! What a class writes, once for all its instances: its different types, which are its terms, its features as calls can
-//! name them, and its bodies, shareds and attributes in order.
+//! The table of a class, computed once for all its instances: its distinct types, which are its terms, its features as calls can name them,
+//! and its bodies, shareds and attributes in order.
 #![tactic(auto)]
 
 mod array_part;

@@ -1,17 +1,18 @@
 //! The members of a class by their names.
 
 use crate::members::Member;
+use failure::{Failure, Invariant, known};
 use indexmap::IndexSet;
-use sa_ast::{Class, NoMemory, held};
+use sa_ast::Class;
 use sa_graph::{IndexGroups, word};
 use std::alloc::Global;
 
-/// The places of the members of a class by their names.
+/// The indices of the members of a class by their names.
 #[derive(Drop)]
 pub(crate) struct MemberNames<'a> {
-    /// The different names, each numbered by its place.
+    /// The distinct names, each numbered by its index.
     names: IndexSet<&'a [u8]>,
-    /// The places of the members by the numbers of their names.
+    /// The indices of the members by the numbers of their names.
     places: IndexGroups,
 }
 
@@ -20,7 +21,7 @@ impl<'a> MemberNames<'a> {
         alloc: Global,
         class: &'a Class,
         members: &[Member],
-    ) -> Result<MemberNames<'a>, NoMemory> {
+    ) -> Result<MemberNames<'a>, Failure> {
         let mut names = IndexSet::new(alloc);
         let mut numbers = Vec::new(alloc);
         for member in members {
@@ -30,7 +31,7 @@ impl<'a> MemberNames<'a> {
         Ok(MemberNames { names, places })
     }
 
-    /// The places of the members with a name, in order.
+    /// The indices of the members with a name, in order.
     pub(crate) fn places(&self, name: &[u8]) -> &[u32] {
         let Some(number) = self.number(name) else {
             return &[];
@@ -43,17 +44,20 @@ impl<'a> MemberNames<'a> {
     }
 }
 
-fn name_of<'a>(class: &'a Class, member: &Member) -> Result<&'a [u8], NoMemory> {
-    let feature = held(class.features.get(member.feature as usize))?;
+fn name_of<'a>(class: &'a Class, member: &Member) -> Result<&'a [u8], Failure> {
+    let feature = known(
+        class.features.get(member.feature as usize),
+        Invariant::ClassTable,
+    )?;
     Ok(feature.name.name.as_slice())
 }
 
-/// The number of a name, which is put at the end where it isn't there yet.
-fn number<'a>(names: &mut IndexSet<&'a [u8]>, name: &'a [u8]) -> Result<u32, NoMemory> {
+/// The number of a name, which is appended where it isn't there yet.
+fn number<'a>(names: &mut IndexSet<&'a [u8]>, name: &'a [u8]) -> Result<u32, Failure> {
     if let Some(place) = names.get_index_of(name) {
-        return word(place);
+        return word(place, Invariant::ClassTable);
     }
-    let place = word(names.len())?;
+    let place = word(names.len(), Invariant::ClassTable)?;
     names.insert(name)?;
     Ok(place)
 }

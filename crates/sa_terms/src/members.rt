@@ -1,12 +1,13 @@
-//! The features of a class as calls can name them: an attribute and a shared are a reader and a writer.
+//! The features of a class as calls can name them: an attribute or a shared is a reader and a writer.
 
 use crate::terms::{OWN, PLAIN_INT, TypeTerms};
-use sa_ast::{Access, Class, ClassKind, Feature, FeatureBody, FormalParam, Mode, NoMemory, held};
+use failure::{Failure, Invariant, known};
+use sa_ast::{Access, Class, ClassKind, Feature, FeatureBody, FormalParam, Mode};
 use sa_graph::word;
 use sqlite_items::Items;
 use std::alloc::Global;
 
-/// How a call names a feature: an attribute and a shared have two sides.
+/// How a call names a feature: an attribute or a shared has a reader and a writer.
 #[derive(Clone, Copy, Debug, PartialEq, Eq, Hash)]
 pub enum Accessor {
     Whole,
@@ -17,14 +18,14 @@ pub enum Accessor {
 /// A feature as a call can name it.
 #[derive(Drop)]
 pub struct Member {
-    /// The place among the features of the class.
+    /// The index among the features of the class.
     pub feature: u32,
     pub side: Accessor,
-    /// Whether only the code of the class sees it. A read-only attribute has a public reader and a private writer.
+    /// Whether it is visible only to the code of the class. A read-only attribute has a public reader and a private writer.
     pub private: bool,
-    /// The modes of the arguments.
+    /// The modes of the parameters.
     pub modes: Items<Mode>,
-    /// The terms of the arguments' types.
+    /// The terms of the parameters' types.
     pub args: Items<u32>,
     /// The term of the result's type.
     pub result: Option<u32>,
@@ -35,11 +36,11 @@ pub(crate) fn members_of(
     alloc: Global,
     class: &Class,
     terms: &TypeTerms<'_>,
-) -> Result<Items<Member>, NoMemory> {
+) -> Result<Items<Member>, Failure> {
     let mut members = Items::new(alloc);
     let answer = attribute_answer(class.kind);
     for (place, feature) in class.features.as_slice().iter().enumerate() {
-        let place = word(place)?;
+        let place = word(place, Invariant::ClassTable)?;
         match &feature.part {
             FeatureBody::Attr => add_sides(alloc, &mut members, feature, place, terms, answer)?,
             FeatureBody::Shared(_) => add_sides(alloc, &mut members, feature, place, terms, None)?,
@@ -49,7 +50,7 @@ pub(crate) fn members_of(
     Ok(members)
 }
 
-/// Puts the reader and the writer of a feature at the end.
+/// Appends the reader and the writer of a feature.
 fn add_sides(
     alloc: Global,
     members: &mut Items<Member>,
@@ -57,14 +58,14 @@ fn add_sides(
     place: u32,
     terms: &TypeTerms<'_>,
     answer: Option<u32>,
-) -> Result<(), NoMemory> {
+) -> Result<(), Failure> {
     let term = result_term(feature, terms)?;
     members.push(reader(alloc, feature.access, place, term))?;
     members.push(writer(alloc, feature.access, place, term, answer)?)?;
     Ok(())
 }
 
-/// What the writer of an attribute gives: in an immutable class a changed copy, else nothing.
+/// The result of the writer of an attribute: in an immutable class a changed copy, else none.
 fn attribute_answer(kind: ClassKind) -> Option<u32> {
     match kind {
         ClassKind::Immutable => Some(OWN),
@@ -89,7 +90,7 @@ fn writer(
     place: u32,
     term: u32,
     answer: Option<u32>,
-) -> Result<Member, NoMemory> {
+) -> Result<Member, Failure> {
     let modes = Items::from_slice(alloc, &[Mode::In])?;
     let args = Items::from_slice(alloc, &[term])?;
     Ok(Member {
@@ -107,7 +108,7 @@ fn whole(
     feature: &Feature,
     place: u32,
     terms: &TypeTerms<'_>,
-) -> Result<Member, NoMemory> {
+) -> Result<Member, Failure> {
     let result_term = whole_result(feature, terms)?;
     let modes = modes_of(alloc, feature.formals.as_slice())?;
     let args = arg_terms(alloc, feature.formals.as_slice(), terms)?;
@@ -121,7 +122,7 @@ fn whole(
     })
 }
 
-fn modes_of(alloc: Global, formals: &[FormalParam]) -> Result<Items<Mode>, NoMemory> {
+fn modes_of(alloc: Global, formals: &[FormalParam]) -> Result<Items<Mode>, Failure> {
     let mut modes = Items::new(alloc);
     for formal in formals {
         modes.push(formal.mode)?;
@@ -133,41 +134,41 @@ fn arg_terms(
     alloc: Global,
     formals: &[FormalParam],
     terms: &TypeTerms<'_>,
-) -> Result<Items<u32>, NoMemory> {
+) -> Result<Items<u32>, Failure> {
     let mut args = Items::new(alloc);
     for formal in formals {
-        args.push(held(terms.term(&formal.ty))?)?;
+        args.push(known(terms.term(&formal.ty), Invariant::ClassTable)?)?;
     }
     Ok(args)
 }
 
-/// The terms of the results of the features at these places.
+/// The terms of the results of the features at these indices.
 pub(crate) fn result_terms(
     alloc: Global,
     features: &[Feature],
     places: &[u32],
     terms: &TypeTerms<'_>,
-) -> Result<Items<u32>, NoMemory> {
+) -> Result<Items<u32>, Failure> {
     let mut list = Items::new(alloc);
     for place in places {
-        let feature = held(features.get(*place as usize))?;
+        let feature = known(features.get(*place as usize), Invariant::ClassTable)?;
         list.push(result_term(feature, terms)?)?;
     }
     Ok(list)
 }
 
 /// The term of the written result. A constant without one is an INT.
-fn result_term(feature: &Feature, terms: &TypeTerms<'_>) -> Result<u32, NoMemory> {
+fn result_term(feature: &Feature, terms: &TypeTerms<'_>) -> Result<u32, Failure> {
     match &feature.result {
         None => Ok(PLAIN_INT),
-        Some(ty) => held(terms.term(ty)),
+        Some(ty) => known(terms.term(ty), Invariant::ClassTable),
     }
 }
 
 /// The term of the result, if there is one. A constant always has one.
-fn whole_result(feature: &Feature, terms: &TypeTerms<'_>) -> Result<Option<u32>, NoMemory> {
+fn whole_result(feature: &Feature, terms: &TypeTerms<'_>) -> Result<Option<u32>, Failure> {
     if let Some(ty) = &feature.result {
-        return Ok(Some(held(terms.term(ty))?));
+        return Ok(Some(known(terms.term(ty), Invariant::ClassTable)?));
     }
     match &feature.part {
         FeatureBody::Const(_, _) => Ok(Some(PLAIN_INT)),

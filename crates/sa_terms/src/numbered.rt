@@ -2,12 +2,13 @@
 
 use crate::members::result_terms;
 use crate::terms::TypeTerms;
-use sa_ast::{Feature, FeatureBody, NoMemory};
+use failure::{Failure, Invariant};
+use sa_ast::{Feature, FeatureBody};
 use sa_graph::word;
 use sqlite_items::Items;
 use std::alloc::Global;
 
-/// What a feature counts among in its class.
+/// The sort of features that a feature is counted with in its class.
 #[derive(Clone, Copy, PartialEq, Eq)]
 pub(crate) enum Sort {
     /// The routines and iters with a body.
@@ -29,9 +30,9 @@ fn sort_of(part: &FeatureBody) -> Sort {
 /// The features of one sort.
 #[derive(Drop)]
 pub(crate) struct NumberedFeatures {
-    /// Their places among the features of the class, in order.
+    /// Their indices among the features of the class, in order.
     features: Items<u32>,
-    /// By feature of the class, its place among those of the sort, if it is one of them.
+    /// By feature of the class, its index among those of the sort, if it is one of them.
     places: Items<Option<u32>>,
 }
 
@@ -41,14 +42,14 @@ impl NumberedFeatures {
         alloc: Global,
         features: &[Feature],
         sort: Sort,
-    ) -> Result<NumberedFeatures, NoMemory> {
+    ) -> Result<NumberedFeatures, Failure> {
         let mut numbered = NumberedFeatures {
             features: Items::new(alloc),
             places: Items::new(alloc),
         };
         for (place, feature) in features.iter().enumerate() {
             if sort_of(&feature.part) == sort {
-                numbered.add(word(place)?)?;
+                numbered.add(word(place, Invariant::ClassTable)?)?;
             } else {
                 numbered.places.push(None)?;
             }
@@ -56,24 +57,25 @@ impl NumberedFeatures {
         Ok(numbered)
     }
 
-    fn add(&mut self, feature: u32) -> Result<(), NoMemory> {
-        self.places.push(Some(word(self.features.len())?))?;
+    fn add(&mut self, feature: u32) -> Result<(), Failure> {
+        self.places
+            .push(Some(word(self.features.len(), Invariant::ClassTable)?))?;
         self.features.push(feature)?;
         Ok(())
     }
 
-    /// The places of the features of the sort among the features of the class, in order.
+    /// The indices of the features of the sort among the features of the class, in order.
     pub(crate) fn features(&self) -> &[u32] {
         self.features.as_slice()
     }
 
-    /// The place of a feature of the class among those of the sort.
+    /// The index of a feature of the class among those of the sort.
     pub(crate) fn place(&self, feature: u32) -> Option<u32> {
         *self.places.get(feature as usize)?
     }
 }
 
-/// The features that count among something in their class.
+/// The features of each sort in their class.
 #[derive(Drop)]
 pub(crate) struct FeatureCounts {
     pub(crate) bodies: NumberedFeatures,
@@ -88,7 +90,7 @@ impl FeatureCounts {
         alloc: Global,
         features: &[Feature],
         terms: &TypeTerms<'_>,
-    ) -> Result<FeatureCounts, NoMemory> {
+    ) -> Result<FeatureCounts, Failure> {
         let bodies = NumberedFeatures::of_sort(alloc, features, Sort::Body)?;
         let shareds = NumberedFeatures::of_sort(alloc, features, Sort::Shared)?;
         let attributes = NumberedFeatures::of_sort(alloc, features, Sort::Attribute)?;

@@ -2,7 +2,7 @@
 
 /// The number of `$OB`. The first needed instances are the same in each program.
 pub const OB: u32 = 0;
-/// The number of `$IS_EQ`, behind that of `$STR`.
+/// The number of `$IS_EQ`, after that of `$STR`.
 pub const IS_EQ: u32 = 2;
 /// The number of BOOL.
 pub const BOOL: u32 = 3;

@@ -2,11 +2,12 @@
 
 use crate::expressions::{expr, exprs, optional_expr};
 use crate::terms::{TypeTerms, optional_type, written};
-use sa_ast::{BranchArm, CaseArm, Expr, NoMemory, Stmt, Ty, TypeArm};
+use failure::Failure;
+use sa_ast::{BranchArm, CaseArm, Expr, Stmt, Ty, TypeArm};
 
-/// The types of statements, put at the end of those that the class writes before them.
+/// The types of statements, appended to those that the class writes before them.
 #[cycle(stmt)]
-pub(crate) fn stmts<'a>(terms: &mut TypeTerms<'a>, list: &'a [Stmt]) -> Result<(), NoMemory> {
+pub(crate) fn stmts<'a>(terms: &mut TypeTerms<'a>, list: &'a [Stmt]) -> Result<(), Failure> {
     for each in list {
         stmt(terms, each)?;
     }
@@ -14,7 +15,7 @@ pub(crate) fn stmts<'a>(terms: &mut TypeTerms<'a>, list: &'a [Stmt]) -> Result<(
 }
 
 #[cycle(stmt)]
-fn stmt<'a>(terms: &mut TypeTerms<'a>, stmt: &'a Stmt) -> Result<(), NoMemory> {
+fn stmt<'a>(terms: &mut TypeTerms<'a>, stmt: &'a Stmt) -> Result<(), Failure> {
     match stmt {
         Stmt::If(arms, otherwise, _) => {
             if_arms(terms, arms.as_slice())?;
@@ -48,8 +49,8 @@ fn stmt<'a>(terms: &mut TypeTerms<'a>, stmt: &'a Stmt) -> Result<(), NoMemory> {
     }
 }
 
-/// The types of a statement that holds no statements.
-fn without_inside<'a>(terms: &mut TypeTerms<'a>, stmt: &'a Stmt) -> Result<(), NoMemory> {
+/// The types of a statement without nested statements.
+fn without_inside<'a>(terms: &mut TypeTerms<'a>, stmt: &'a Stmt) -> Result<(), Failure> {
     match stmt {
         Stmt::Declare(_, ty, value) => declaration(terms, ty, value),
         Stmt::Assign(to, value, _) => assignment(terms, to, value),
@@ -66,22 +67,18 @@ fn declaration<'a>(
     terms: &mut TypeTerms<'a>,
     ty: &'a Option<Ty>,
     value: &'a Option<Expr>,
-) -> Result<(), NoMemory> {
+) -> Result<(), Failure> {
     optional_type(terms, ty)?;
     optional_expr(terms, value)
 }
 
-fn assignment<'a>(
-    terms: &mut TypeTerms<'a>,
-    to: &'a Expr,
-    value: &'a Expr,
-) -> Result<(), NoMemory> {
+fn assignment<'a>(terms: &mut TypeTerms<'a>, to: &'a Expr, value: &'a Expr) -> Result<(), Failure> {
     expr(terms, to)?;
     expr(terms, value)
 }
 
 #[cycle(stmt)]
-fn if_arms<'a>(terms: &mut TypeTerms<'a>, arms: &'a [BranchArm]) -> Result<(), NoMemory> {
+fn if_arms<'a>(terms: &mut TypeTerms<'a>, arms: &'a [BranchArm]) -> Result<(), Failure> {
     for arm in arms {
         expr(terms, &arm.test)?;
         stmts(terms, arm.body.as_slice())?;
@@ -90,7 +87,7 @@ fn if_arms<'a>(terms: &mut TypeTerms<'a>, arms: &'a [BranchArm]) -> Result<(), N
 }
 
 #[cycle(stmt)]
-fn case_arms<'a>(terms: &mut TypeTerms<'a>, arms: &'a [CaseArm]) -> Result<(), NoMemory> {
+fn case_arms<'a>(terms: &mut TypeTerms<'a>, arms: &'a [CaseArm]) -> Result<(), Failure> {
     for arm in arms {
         exprs(terms, arm.values.as_slice())?;
         stmts(terms, arm.body.as_slice())?;
@@ -99,7 +96,7 @@ fn case_arms<'a>(terms: &mut TypeTerms<'a>, arms: &'a [CaseArm]) -> Result<(), N
 }
 
 #[cycle(stmt)]
-fn type_arms<'a>(terms: &mut TypeTerms<'a>, arms: &'a [TypeArm]) -> Result<(), NoMemory> {
+fn type_arms<'a>(terms: &mut TypeTerms<'a>, arms: &'a [TypeArm]) -> Result<(), Failure> {
     for arm in arms {
         written(terms, &arm.ty)?;
         stmts(terms, arm.body.as_slice())?;

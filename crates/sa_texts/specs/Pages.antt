@@ -120,7 +120,7 @@ files_10 = map (λ row. (row.0.now, row.1.now, row.2.now, row.3.now)) FILES_10
 unfoldable pub files_11 : List Row
 files_11 = map (λ row. (row.0.now, row.1.now, row.2.now, row.3.now)) FILES_11
 
--- the first text, or where there is none the second
+-- the first text, or the second where there is no first
 abbrev pub before : Option Text → Option Text → Option Text
 before (Some text) second = Some text
 before None second = second

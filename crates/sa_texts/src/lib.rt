@@ -1,4 +1,4 @@
-//! The texts that the program has within: the pages of docs/ERRORS.md, and the files of lib/.
+//! The texts that the program contains: the pages of docs/ERRORS.md, and the files of lib/.
 #![tactic(auto)]
 
 mod errors;

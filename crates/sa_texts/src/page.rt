@@ -1,4 +1,4 @@
-//! Which text a word asks for. The texts stand in parts, since the prover takes so much of a constant and no more.
+//! Which text a word asks for. The texts are in parts, since the prover takes only so much of a constant.
 
 ghost use Rattle.std.specs.Prelude.{◌≡◌, map, option_map};
 ghost use Rattle.sa_texts.specs.Pages as spec;
@@ -6,7 +6,7 @@ ghost use Rattle.sa_texts.specs.Pages.{asked_row, seen_row};
 
 use crate::{errors, library};
 
-/// The page that explains a code, as `E33`, or the text of a line, as `index`.
+/// The page that explains a code, such as `E33`, or the text of a line, such as `index`; none where no page does.
 pub fn error_page(word: &str) -> Option<&'static str>
     ensures { option_map (λ page. page.now) result ≡ spec.error_page word.now }
 {
@@ -25,7 +25,7 @@ pub fn error_page(word: &str) -> Option<&'static str>
     text
 }
 
-/// The file of the library with this name, with `.sa` or without.
+/// The file of the library with this name, with `.sa` or without; none where there is none.
 pub fn library_file(name: &str) -> Option<&'static str>
     ensures { option_map (λ file. file.now) result ≡ spec.library_file name.now }
 {
@@ -52,7 +52,7 @@ pub fn library_list() -> &'static str
     library::LISTED
 }
 
-/// The first text, or where there is none the second.
+/// The first text, or the second where there is no first.
 fn before(first: Option<&'static str>, second: Option<&'static str>) -> Option<&'static str>
     ensures { option_map (λ text. text.now) result
         ≡ spec.before (option_map (λ text. text.now) first.entry) (option_map (λ text. text.now) second.entry) }

@@ -1,4 +1,4 @@
--- What bytes begin with.
+-- Which record bytes begin with.
 use Rattle.std.proofs.Common.{◌≡◌, ◌≢◌, ◌<◌, ◌≤◌, ◌+◌, ℕ, List, [], ◌∷◌, ◌++◌, length, take, drop, Some, refl, sym, ap, subst, ◌∙◌, arith, append_assoc, length-append, length-take, length-drop}
 use Rattle.std.specs.Prelude.{slice_get, slice_index, slice_index_or}
 use Rattle.std.specs.Int.{from_le_bytes, w32, w64}
@@ -56,19 +56,19 @@ module _ (positions : List Pos) (sources : Sources) where
       let outer = length-append reports.site (reports.instance ++ rest) in
       omega (arith, short, e, inner, outer, reports.of_site, reports.of_instance)
 
-  -- no frame begins with another byte
+  -- no record begins with another byte
   pub wrong-first : (tag : ℕ) (bytes : List ℕ) → tag ≢ 0 → tag ≢ 1 → AreWrong positions sources (tag ∷ bytes)
   wrong-first tag bytes not0 not1 more front rest (frame.Byte byte) is one = not0 (ap first (is ∙ ap (λ (xs : List ℕ). xs ++ rest) one))
   wrong-first tag bytes not0 not1 more front rest (frame.Event event) is reports =
       not1 (ap first (cells (tag ∷ bytes ++ more) front rest event is reports))
 
-  -- no event is of a kind that there isn't
+  -- no event is of a kind that doesn't exist
   pub wrong-kind : (number : ℕ) (bytes : List ℕ) → ((kind : EventKind) → kind_number kind ≢ number) → AreWrong positions sources (1 ∷ number ∷ bytes)
   wrong-kind number bytes none more front rest (frame.Byte byte) is one = one-zero (ap first (is ∙ ap (λ (xs : List ℕ). xs ++ rest) one))
   wrong-kind number bytes none more front rest (frame.Event event) is reports =
       none event.kind (sym (ap second (cells (1 ∷ number ∷ bytes ++ more) front rest event is reports)))
 
-  -- nor at a site that there isn't
+  -- nor at a site that doesn't exist
   pub wrong-site : (number : ℕ) (bytes : List ℕ) → 4 ≤ length bytes → ((at : Pos) → slice_get positions (from_le_bytes w32 (take 4 bytes)) ≡ Some at → IsPlace sources at → ⊥) → AreWrong positions sources (1 ∷ number ∷ bytes)
   wrong-site number bytes long none more front rest (frame.Byte byte) is one = one-zero (ap first (is ∙ ap (λ (xs : List ℕ). xs ++ rest) one))
   wrong-site number bytes long none more front rest (frame.Event event) is reports =
@@ -80,7 +80,7 @@ module _ (positions : List Pos) (sources : Sources) where
       let same : take 4 bytes ≡ reports.site = sym ours ∙ ap (take 4) following ∙ theirs in
       none event.at (subst (λ (xs : List ℕ). slice_get positions (from_le_bytes w32 xs) ≡ Some event.at) (sym same) reports.site_is) reports.placed
 
-  -- an event of its parts
+  -- an event from its parts
   pub whole-event : (kind : EventKind) (at : Pos) (number : ℕ) (bytes : List ℕ) → kind_number kind ≡ number → 12 ≤ length bytes → slice_get positions (from_le_bytes w32 (take 4 bytes)) ≡ Some at → IsPlace sources at → IsTraceRecord positions sources (take 14 (1 ∷ number ∷ bytes)) (frame.Event (record { kind = kind; at = at; instance = from_le_bytes w64 (take 8 (drop 4 bytes)) }))
   whole-event kind at number bytes is long found placed = record {
     site = take 4 bytes;
@@ -93,7 +93,7 @@ module _ (positions : List Pos) (sources : Sources) where
     placed = placed;
   }
 
-  -- an event of the chunks that tell it
+  -- an event from the chunks that encode it
   pub event-reported : (bytes left : List ℕ) (kind : EventKind) (at : Pos) (site following instance : List ℕ) (place count : ℕ) → 1 ≤ length bytes → left ≡ drop 1 bytes → kind_number kind ≡ slice_index bytes 0 → site ≡ take 4 left → following ≡ drop 4 left → length following + 4 ≡ length left → instance ≡ take 8 following → 8 ≤ length following → place ≡ from_le_bytes w32 site → count ≡ from_le_bytes w64 instance → slice_get positions place ≡ Some at → IsPlace sources at → IsTraceRecord positions sources (take 14 (1 ∷ bytes)) (frame.Event (record { kind = kind; at = at; instance = count })) × (14 ≤ length (1 ∷ bytes))
   event-reported [] left kind at site following instance place count some left_is is site_is behind_is long instance_is enough place_is count_is found placed = absurd (omega (arith, some))
   event-reported (number ∷ rest) left kind at site following instance place count some left_is is site_is behind_is long instance_is enough place_is count_is found placed =

@@ -1,4 +1,4 @@
--- Frames that are handed on one after another.
+-- Records that are written one after another.
 use Rattle.std.proofs.Common.{◌≡◌, ◌⊎◌, inl, inr, ◌<◌, ◌≤◌, ◌+◌, ℕ, suc, min, get_or, List, [], ◌∷◌, ◌++◌, length, take, drop, Option, Some, None, refl, sym, ap, subst, ◌∙◌, arith, append_assoc, append-nil}
 use Rattle.std.specs.Prelude.{Err, Ok, OnErr, Result, option_map}
 use Rattle.std.proofs.Math.Seq.{take-length}
@@ -26,7 +26,7 @@ took-more None b c first more one two = two ∙ ap (option_map (λ (taken : List
 took-more (Some given) b c first more one two =
     two ∙ ap (option_map (λ (taken : List ℕ). taken ++ more)) one ∙ ap Some (append_assoc given first more)
 
--- all of a piece is a front of it
+-- all of a piece is a prefix of it
 pub front-whole : (old new : Option (List ℕ)) (bytes : List ℕ) → Took old new bytes → TookFront old new bytes
 front-whole old new bytes took = (length bytes, subst (Took old new) (sym (take-length bytes)) took)
 
@@ -40,7 +40,7 @@ take_min k bytes = elim (cases_lt k (length bytes)) [
       ap (λ n. take n bytes) same ∙ take_all (length bytes) bytes (omega arith) ∙ sym (take_all k bytes past)
 ]
 
--- a front of a piece is one of a longer piece
+-- a prefix of a piece is one of a longer piece
 pub front-longer : (old new : Option (List ℕ)) (bytes more : List ℕ) → TookFront old new bytes → TookFront old new (bytes ++ more)
 front-longer old new bytes more (k, took) =
     let shorter : take (min k (length bytes)) (bytes ++ more) ≡ take k bytes =
@@ -55,7 +55,7 @@ past (x ∷ first) more k n is =
     let next : n ≡ suc (length first + k) = omega (arith, is) in
     ap (λ (i : ℕ). take i (x ∷ first ++ more)) next ∙ ap (λ (xs : List ℕ). x ∷ xs) (past first more k (length first + k) refl)
 
--- a front of a piece behind another piece
+-- a prefix of a piece after another piece
 pub front-following : (a b c : Option (List ℕ)) (first more : List ℕ) → Took a b first → TookFront b c more → TookFront a c (first ++ more)
 front-following a b c first more one (k, two) =
     (length first + k, subst (Took a c) (sym (past first more k (length first + k) refl)) (took-more a b c first (take k more) one two))
@@ -68,14 +68,14 @@ pub on-err : {T E P : Type 0} (r : Result T E) → P → OnErr r P
 on-err (Ok value) holds = tt
 on-err (Err error) holds = holds
 
--- ---- what err hears
+-- ---- what err takes
 
 pub hears-none : (before : ErrStatus) (s : Sink) → Hears before before s s []
 hears-none listening.Yes s = inl (refl, took-none s.taken)
 hears-none listening.Failed s = (refl, refl)
 hears-none listening.NoMemory s = (refl, refl)
 
--- lines behind lines
+-- lines after lines
 pub hears-more : (before middle after : ErrStatus) (old now new : Sink) (lines more : List ℕ) → old.faults ≤ now.faults → Hears before middle old now lines → Hears middle after now new more → Hears before after old new (lines ++ more)
 hears-more listening.Yes middle after old now new lines more count (inl (is, took)) next =
     on (subst (λ (one : ErrStatus). Hears one after now new more) is next)
@@ -101,7 +101,7 @@ hears-whole listening.Yes after old new lines (inr (stops, front)) = (inr (inl s
 hears-whole listening.Failed after old new lines heard = heard
 hears-whole listening.NoMemory after old new lines heard = heard
 
--- a part of a line behind lines
+-- a part of a line after lines
 pub hears-part : (before middle after : ErrStatus) (old now new : Sink) (lines more : List ℕ) → old.faults ≤ now.faults → Hears before middle old now lines → HearsPart middle after now new more → HearsPart before after old new (lines ++ more)
 hears-part listening.Yes middle after old now new lines more count (inl (is, took)) next =
     let heard = subst (λ (one : ErrStatus). HearsPart one after now new more) is next in
@@ -123,7 +123,7 @@ hears-part listening.NoMemory middle after old now new lines more count (is, sam
     let still = subst (λ (one : ErrStatus). HearsPart one after now new more) is next in
     (still.0, still.1 ∙ same)
 
--- ---- the output and the lines of frames behind frames
+-- ---- the output and the lines of records after records
 
 pub output-more : (front back : List TraceRecord) → output_of (front ++ back) ≡ output_of front ++ output_of back
 output-more [] back = refl
@@ -137,20 +137,20 @@ lines-more sources (frame.Event event ∷ front) back =
     ap (λ (xs : List ℕ). line sources event ++ xs) (lines-more sources front back)
     ∙ sym (append_assoc (line sources event) (lines_of sources front) (lines_of sources back))
 
--- a frame that comes next is the last of the first ones, and the first of the others
+-- the next record is the last of the first ones, and the first of the others
 pub next-frame : (frames : List TraceRecord) (i : ℕ) (default one : TraceRecord) → i < length frames → get_or frames i default ≡ one → (frames ≡ take i frames ++ one ∷ drop (i + 1) frames) × (take (i + 1) frames ≡ take i frames ++ one ∷ [])
 next-frame frames i default one within is = (
   sym (take-append-drop i frames) ∙ ap (λ (xs : List TraceRecord). take i frames ++ xs) (drop_more frames i default within ∙ ap (λ (x : TraceRecord). x ∷ drop (i + 1) frames) is),
   take_more frames i default within ∙ ap (λ (x : TraceRecord). take i frames ++ x ∷ []) is,
 )
 
--- the event that comes next stands at a place
+-- the position of the next event is in a text
 pub placed-following : (sources : Sources) (front rest : List TraceRecord) (event : Event) → ArePlaced sources (front ++ frame.Event event ∷ rest) → IsPlace sources event.at
 placed-following sources [] rest event placed = placed.0
 placed-following sources (frame.Byte byte ∷ front) rest event placed = placed-following sources front rest event placed
 placed-following sources (frame.Event other ∷ front) rest event placed = placed-following sources front rest event placed.1
 
--- ---- the first of the frames are handed on, but for the bytes that are held
+-- ---- the first of the records are written, but for the bytes that are held
 
 pub record SoFar (sources : Sources) (front : List TraceRecord) (held : List ℕ) (out_old out_new : Sink) (before after : ErrStatus) (err_old err_new : Sink) : Type 0 where
   pub sent : List ℕ
@@ -172,7 +172,7 @@ module _ {sources : Sources} {front : List TraceRecord} {held : List ℕ} {out_o
     err_count = so_far.err_count;
   }
 
-  -- what is held is handed on
+  -- what is held is written
   pub all-sent : (taken : Option (List ℕ)) → Took out_now.taken taken held → Took out_old.taken taken (output_of front)
   all-sent taken took = subst (Took out_old.taken taken) so_far.output_is (took-more out_old.taken out_now.taken taken so_far.sent held so_far.took took)
 
@@ -193,7 +193,7 @@ module _ {sources : Sources} {front : List TraceRecord} {held : List ℕ} {out_o
   output-event : (event : Event) → output_of (front ++ frame.Event event ∷ []) ≡ output_of front
   output-event event = output-more front (frame.Event event ∷ []) ∙ append-nil (output_of front)
 
-  -- an event is told behind what was held
+  -- an event is reported after what was held
   pub so-far-event : (event : Event) (out_new : Sink) (after : ErrStatus) (err_new : Sink) → Took out_now.taken out_new.taken held → out_now.faults ≤ out_new.faults → Hears middle after err_now err_new (line sources event) → err_now.faults ≤ err_new.faults → SoFar sources (front ++ frame.Event event ∷ []) [] out_old out_new before after err_old err_new
   so-far-event event out_new after err_new took out_more hears err_more = record {
     sent = output_of front;

@@ -1,4 +1,4 @@
--- Frames one after another, and what is left of pieces.
+-- Records one after another, and what remains of pieces.
 use Rattle.std.proofs.Common.{◌≡◌, ◌≢◌, inl, inr, ◌+◌, ◌≤◌, Bool, true, false, true≢false, ℕ, List, [], ◌∷◌, ◌++◌, length, take, drop, refl, sym, ap, subst, ◌∙◌, arith, append_assoc, append-nil, length-drop}
 use Rattle.std.proofs.Math.Seq.{take-add}
 use Rattle.sa_ast.specs.declared.pos.Pos.{Pos}
@@ -11,7 +11,7 @@ use Rattle.sa_trace.specs.declared.first_record.FirstRecord.TheVariants as found
 use Rattle.sa_trace.specs.Pieces.{AreWrong, Finds, HasRead, Keeps, ParserState, size_of}
 
 module _ (positions : List Pos) (sources : Sources) where
-  -- frames behind frames
+  -- records after records
   pub joined : (front back : List ℕ) (frames more : List TraceRecord) → AreTraceRecords positions sources front frames → AreTraceRecords positions sources back more → AreTraceRecords positions sources (front ++ back) (frames ++ more)
   joined front back [] more none are = subst (λ (xs : List ℕ). AreTraceRecords positions sources (xs ++ back) more) (sym none) are
   joined front back (one ∷ frames) more (first, rest, split, is, others) are = (
@@ -22,11 +22,11 @@ module _ (positions : List Pos) (sources : Sources) where
     joined rest back frames more others are,
   )
 
-  -- one frame
+  -- one record
   pub alone : (bytes : List ℕ) (one : TraceRecord) → IsTraceRecord positions sources bytes one → AreTraceRecords positions sources bytes (one ∷ [])
   alone bytes one is = (bytes, [], sym (append-nil bytes), is, refl)
 
-  -- a frame more
+  -- one more record
   pub one-more : (bytes : List ℕ) (at size : ℕ) (left : List ℕ) (frames more : List TraceRecord) (one : TraceRecord) → at ≤ length bytes → left ≡ drop at bytes → AreTraceRecords positions sources (take at bytes) frames → size ≡ size_of one → IsTraceRecord positions sources (take (size_of one) left) one → size_of one ≤ length left → more ≡ frames ++ one ∷ [] → (at + size ≤ length bytes) × AreTraceRecords positions sources (take (at + size) bytes) more
   one-more bytes at size left frames more one within left_is are size_is is fits more_is = (
     omega (arith, within, fits, size_is, ap length left_is, length-drop at bytes),
@@ -37,24 +37,24 @@ module _ (positions : List Pos) (sources : Sources) where
         (subst (λ (xs : List ℕ). IsTraceRecord positions sources (take (size_of one) xs) one) left_is is))))),
   )
 
-  -- where no whole frame is found there is none
+  -- where no whole record is found there is none
   pub found-none : (bytes : List ℕ) (what : FirstRecord) → Finds positions sources bytes what → ((one : TraceRecord) → what ≢ found.Whole one) → BeginsNone positions sources bytes
   found-none bytes (found.Whole one) finds none = absurd (none one refl)
   found-none bytes found.Part finds none = finds
   found-none bytes found.Wrong finds none = subst (BeginsNone positions sources) (append-nil bytes) (finds [])
 
-  -- what is left of bytes behind their frames, where this says whether no frame comes of it
+  -- what remains of bytes after their records, where this says whether it can begin no record
   pub keeps : (kept rest : List ℕ) (wrong : Bool) → kept ≡ rest → BeginsNone positions sources rest → (wrong ≡ true → AreWrong positions sources rest) → Keeps positions sources (record { begun = kept; wrong = wrong }) rest
   keeps kept rest false is none wrongs = inl (refl, is, none)
   keeps kept rest true is none wrongs = inr (refl, wrongs refl)
 
-  -- the events of frames stand at places
+  -- the positions of the events of records are in texts
   pub are-placed : (bytes : List ℕ) (frames : List TraceRecord) → AreTraceRecords positions sources bytes frames → ArePlaced sources frames
   are-placed bytes [] none = tt
   are-placed bytes (frame.Byte byte ∷ more) (first, rest, split, is, others) = are-placed rest more others
   are-placed bytes (frame.Event event ∷ more) (first, rest, split, reports, others) = (reports.placed, are-placed rest more others)
 
-  -- what is wrong stays so
+  -- what is wrong stays wrong
   wrong-on : (rest bytes : List ℕ) → AreWrong positions sources rest → AreWrong positions sources (rest ++ bytes)
   wrong-on rest bytes wrong more = subst (BeginsNone positions sources) (sym (append_assoc rest bytes more)) (wrong (bytes ++ more))
 
@@ -72,7 +72,7 @@ module _ (positions : List Pos) (sources : Sources) where
       dropped (inl (not, begun, none)) = absurd (true≢false (sym is ∙ not))
       dropped (inr (wrong, are)) = inr (wrong, wrong-on read.rest bytes are)
 
-  -- the frames of what had begun and of the bytes behind it
+  -- the records of what had begun and of the bytes after it
   pub read-on : (came bytes front rest : List ℕ) (earlier frames : List TraceRecord) (old new : ParserState) → old.wrong ≡ false → old.begun ++ bytes ≡ front ++ rest → AreTraceRecords positions sources front frames → Keeps positions sources new rest → HasRead positions sources came earlier old → HasRead positions sources (came ++ bytes) (earlier ++ frames) new
   read-on came bytes front rest earlier frames old new is split are keeps read = record {
     front = read.front ++ front;

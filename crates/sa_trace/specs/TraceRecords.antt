@@ -1,4 +1,4 @@
--- What a traced module puts: a row of frames, each a byte of the output or an event.
+-- What a traced module puts: a sequence of records, each a byte of the output or an event.
 use Rattle.std.specs.Prelude.{◌≡◌, ◌<◌, ⊤, ℕ, List, [], ◌∷◌, ◌++◌, length, slice_get, Some}
 use Rattle.std.specs.Int.{from_le_bytes, w32, w64}
 use Rattle.sa_ast.specs.declared.pos.Pos.{Pos}
@@ -24,7 +24,7 @@ IsPlace sources pos = (pos.file < length sources.texts) × (length (text_of sour
 
 -- where the sites of the program have these positions, in these texts
 module _ (positions : List Pos) (sources : Sources) where
-  -- the bytes tell the event: its kind by a number, its site in 4 bytes, and the number of its instance in 8
+  -- the bytes encode the event: its kind by a number, its site in 4 bytes, and the number of its instance in 8
   pub record EncodesEvent (bytes : List ℕ) (event : Event) : Type 0 where
     pub site : List ℕ
     pub instance : List ℕ
@@ -35,21 +35,21 @@ module _ (positions : List Pos) (sources : Sources) where
     pub instance_is : event.instance ≡ from_le_bytes w64 instance
     pub placed : IsPlace sources event.at
 
-  -- the bytes are the frame
+  -- the bytes are the record
   abbrev pub IsTraceRecord : List ℕ → TraceRecord → Type 0
   IsTraceRecord bytes (frame.Byte byte) = bytes ≡ 0 ∷ byte ∷ []
   IsTraceRecord bytes (frame.Event event) = EncodesEvent bytes event
 
-  -- the bytes are these frames, one after another
+  -- the bytes are these records, one after another
   abbrev pub AreTraceRecords : List ℕ → List TraceRecord → Type 0
   AreTraceRecords bytes [] = bytes ≡ []
   AreTraceRecords bytes (one ∷ more) = (first rest : List ℕ) × (bytes ≡ first ++ rest) × IsTraceRecord first one × AreTraceRecords rest more
 
-  -- the bytes begin with no frame
+  -- no prefix of the bytes is a record
   abbrev pub BeginsNone : List ℕ → Type 0
   BeginsNone bytes = (first rest : List ℕ) (one : TraceRecord) → bytes ≡ first ++ rest → IsTraceRecord first one → ⊥
 
-  -- the bytes are these frames and what begins with none: a part of one, or what is dropped
+  -- the bytes are these records and what begins with none: a part of one, or what is dropped
   pub record TraceEncoding (bytes : List ℕ) (frames : List TraceRecord) : Type 0 where
     pub front : List ℕ
     pub rest : List ℕ
@@ -63,7 +63,7 @@ output_of [] = []
 output_of (frame.Byte byte ∷ more) = byte ∷ output_of more
 output_of (frame.Event event ∷ more) = output_of more
 
--- the events stand at places in the texts
+-- the positions of the events are in the texts
 abbrev pub ArePlaced : Sources → List TraceRecord → Type 0
 ArePlaced sources [] = ⊤
 ArePlaced sources (frame.Byte byte ∷ more) = ArePlaced sources more

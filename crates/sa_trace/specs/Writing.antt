@@ -1,4 +1,4 @@
--- The lines of events, and what frames make of out and err.
+-- The lines of events, and the effect of records on out and err.
 use Rattle.std.specs.Prelude.{◌≡◌, ◌⊎◌, ◌+◌, ◌==◌, ℕ, List, [], ◌∷◌, ◌++◌, Option}
 use Rattle.std.specs.Prelude.{codes, count_by, decimal, slice_get, take, unwrap_or}
 use Rattle.host_io.specs.Faults.{Rose}
@@ -39,7 +39,7 @@ lines_of sources [] = []
 lines_of sources (frame.Byte byte ∷ more) = lines_of sources more
 lines_of sources (frame.Event event ∷ more) = line sources event ++ lines_of sources more
 
--- what a sink has taken, where it tells, and how often it has failed
+-- what a sink has taken, where that is known, and how often it has failed
 pub record Sink : Type 0 where
   pub taken : Option (List ℕ)
   pub faults : ℕ
@@ -47,30 +47,30 @@ pub record Sink : Type 0 where
 abbrev pub sink : Option (List ℕ) → ℕ → Sink
 sink taken faults = record { taken = taken; faults = faults }
 
--- err has failed meanwhile, and listens no more
+-- err has failed meanwhile, and takes no more lines
 abbrev pub StopsListening : ErrStatus → (old new : Sink) → Type 0
 StopsListening after old new = (after ≡ listening.Failed) × Rose old.faults new.faults
 
--- err takes the lines, or fails at a part of them; where it doesn't listen it takes nothing
+-- err takes the lines, or fails at a part of them; where it takes no more lines it takes nothing
 abbrev pub Hears : (before after : ErrStatus) → (old new : Sink) → (lines : List ℕ) → Type 0
 Hears listening.Yes after old new lines =
     ((after ≡ listening.Yes) × Took old.taken new.taken lines)
     ⊎ (StopsListening after old new × TookFront old.taken new.taken lines)
 Hears before after old new lines = (after ≡ before) × (new ≡ old)
 
--- err takes a front of the lines, and listens as before unless it failed or had no memory; where it doesn't listen it takes nothing
+-- err takes a prefix of the lines, and its state stays unless it failed or had no memory; where it takes no more lines it takes nothing
 abbrev pub HearsPart : (before after : ErrStatus) → (old new : Sink) → (lines : List ℕ) → Type 0
 HearsPart listening.Yes after old new lines =
     ((after ≡ listening.Yes) ⊎ StopsListening after old new ⊎ (after ≡ listening.NoMemory)) × TookFront old.taken new.taken lines
 HearsPart before after old new lines = (after ≡ before) × (new ≡ old)
 
--- the frames are handed on: their output to out, and the lines of their events to err
+-- the records are written: their output to out, and the lines of their events to err
 pub record WritesRecords (sources : Sources) (frames : List TraceRecord) (out_old out_new : Sink) (before after : ErrStatus)
     (err_old err_new : Sink) : Type 0 where
   pub out : Took out_old.taken out_new.taken (output_of frames)
   pub err : Hears before after err_old err_new (lines_of sources frames)
 
--- out takes a front of the output of the first of the frames, and this is heard of their events
+-- out takes a prefix of the output of the first of the records, and this holds of the lines of their events
 pub record WritesFront (sources : Sources) (frames : List TraceRecord) (out_old out_new : Sink) (Heard : (lines : List ℕ) → Type 0) : Type 0 where
   pub reported : List TraceRecord
   pub more : List TraceRecord

@@ -1,4 +1,4 @@
-//! The frame that bytes begin with.
+//! The record that bytes begin with.
 
 ghost use Rattle.std.specs.Prelude.{◌≡◌, ◌∷◌, Decides, MatchOption, Some, slice_get};
 ghost use Rattle.sa_trace.specs.TraceRecords.{IsPlace};
@@ -11,11 +11,11 @@ use sa_ast::{Pos, Sources};
 /// What bytes begin with.
 #[derive(Clone, Copy, Debug)]
 pub(crate) enum FirstRecord {
-    /// A frame.
+    /// A record.
     Whole(TraceRecord),
-    /// A part of a frame, or nothing.
+    /// A part of a record, or no byte.
     Part,
-    /// No frame, whatever follows.
+    /// No record, whatever follows.
     Wrong,
 }
 
@@ -43,7 +43,7 @@ pub(crate) fn first_record(bytes: &[u8], positions: &[Pos], sources: &Sources) -
     }
 }
 
-/// What the bytes begin with that are 1 and these.
+/// What `1` and these bytes after it begin with.
 fn event(bytes: &[u8], positions: &[Pos], sources: &Sources) -> FirstRecord
     ensures { Finds positions.now sources.now (1 ∷ bytes.now) result }
 {

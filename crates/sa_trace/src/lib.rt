@@ -1,5 +1,5 @@
-//! The trace of a program: the frames that its module puts are parted, its output goes to one sink, and the lines of what became of the
-//! instances of its iters to another.
+//! The trace of a program: parses the records that its module puts, and writes its output to one sink and the lines of the events of
+//! its iters' instances to another.
 #![tactic(auto)]
 
 mod first_record;

@@ -26,7 +26,7 @@ pub(crate) fn line(alloc: Global, event: &Event, sources: &Sources) -> Result<Ve
     Ok(line)
 }
 
-/// The name of the text with this number, or nothing where it has none.
+/// The name of the text with this index, or no bytes where there is none.
 fn file_name(sources: &Sources, file: u32) -> &[u8]
     ensures { result.now ≡ unwrap_or (slice_get sources.now.names file) [] }
 {

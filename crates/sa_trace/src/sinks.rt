@@ -1,4 +1,4 @@
-//! Frames on their way to the sinks: the bytes of the output to out, the lines of the events to err, in the order of the frames.
+//! Writes records to the sinks: the bytes of the output to out, the lines of the events to err, in the order of the records.
 
 ghost use Rattle.std.specs.Prelude.{◌≡◌, ◌≤◌, ◌++◌, ◌∷◌, [], OnOk, OnErr, IsErrOf, IsOkUnless};
 ghost use Rattle.host_io.specs.Faults.{Rose};
@@ -21,7 +21,7 @@ pub enum ErrStatus {
     NoMemory,
 }
 
-/// Hands frames on, up to an outage. A failure of err is none.
+/// Writes records, up to an outage. A failure of err isn't one.
 pub fn write_records<O: Sink, E: Sink>(
     alloc: Global,
     frames: &[TraceRecord],
@@ -59,7 +59,7 @@ pub fn write_records<O: Sink, E: Sink>(
     out.put(held.as_slice())
 }
 
-/// Holds a byte more.
+/// Buffers one more byte.
 fn hold(held: &mut Vec<u8>, byte: u8) -> Result<(), Outage>
     ensures ok { OnOk result (held.new.items ≡ held.old.items ++ byte ∷ []) }
     ensures sure { IsOkUnless result Outage.NoMemory }
@@ -70,7 +70,7 @@ fn hold(held: &mut Vec<u8>, byte: u8) -> Result<(), Outage>
     }
 }
 
-/// Puts the line of an event on err, if it still takes lines.
+/// Puts the line of an event on err, if err still takes lines.
 fn tell<E: Sink>(
     alloc: Global,
     event: &Event,

@@ -1,4 +1,4 @@
-//! Frames that come in pieces.
+//! Records that come in pieces.
 
 ghost use Rattle.std.specs.Prelude.{◌≡◌, ◌≤◌, ◌++◌, ℕ, List, [], false, drop, length, take, IfOk, IsTrue};
 ghost use Rattle.sa_trace.specs.TraceRecords.{AreTraceRecords, ArePlaced, BeginsNone};
@@ -11,12 +11,12 @@ use sa_ast::{Pos, Sources};
 use std::alloc::{AllocError, Global};
 use std::marker::Model;
 
-/// What is left of the bytes that have come, behind their frames.
+/// What remains of the bytes that have come, after their records.
 #[derive(Drop)]
 pub struct TraceParser {
-    /// The frame that has begun.
+    /// The record that has begun.
     begun: Vec<u8>,
-    /// Whether bytes have come that begin no frame, so that all that follows is dropped.
+    /// Whether bytes have come that begin no record, so that all that follows is dropped.
     wrong: bool,
 }
 
@@ -39,8 +39,8 @@ impl TraceParser {
         }
     }
 
-    /// The frames that end in these bytes, which follow those that came before. The sites of the program have these positions. From
-    /// the first byte on that begins no frame, all are dropped.
+    /// The records that end in these bytes, which follow those that came before. The sites of the program have these positions. From the
+    /// first byte on that begins no record, all are dropped.
     pub fn part(
         &mut self,
         alloc: Global,
@@ -48,7 +48,7 @@ impl TraceParser {
         positions: &[Pos],
         sources: &Sources,
     ) -> Result<Vec<TraceRecord>, AllocError>
-        // Whichever pieces the bytes come in, the frames of all pieces together are those of the bytes.
+        // Whichever pieces the bytes come in, the records of all pieces together are those of the bytes.
         ensures read { IfOk result (λ frames. (came : List ℕ) (earlier : List Frames)
             → HasRead positions.now sources.now came earlier self.old
             → HasRead positions.now sources.now (came ++ bytes.now) (earlier ++ frames.items) self.new) }
@@ -66,14 +66,14 @@ impl TraceParser {
     }
 }
 
-/// Whether no frame comes of the bytes, whatever follows.
+/// Whether the bytes begin no record, whatever follows.
 fn are_wrong(bytes: &[u8], positions: &[Pos], sources: &Sources) -> bool
     ensures { IsTrue result → AreWrong positions.now sources.now bytes.now }
 {
     matches!(first_record(bytes, positions, sources), FirstRecord::Wrong)
 }
 
-/// The frames that the bytes begin with, and the place behind them.
+/// The records that the bytes begin with, and how many bytes they are.
 fn frames_of(
     alloc: Global,
     bytes: &[u8],

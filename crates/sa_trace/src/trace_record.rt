@@ -1,4 +1,4 @@
-//! Frames: what a traced module puts.
+//! Records: the output of a traced module.
 
 ghost use Rattle.std.specs.Prelude.{◌≡◌, ◌≢◌, MatchOption};
 ghost use Rattle.sa_trace.specs.TraceRecords.{kind_number};
@@ -7,7 +7,7 @@ ghost use Rattle.sa_trace.specs.declared.trace_record.EventKind.{EventKind as Ki
 
 use sa_ast::Pos;
 
-/// What becomes of an instance of an iter.
+/// What happens to an instance of an iter.
 #[derive(Clone, Copy, Debug, PartialEq, Eq, Hash)]
 pub enum EventKind {
     Start,
@@ -18,17 +18,17 @@ pub enum EventKind {
     Abandon,
 }
 
-/// Something that becomes of an instance of an iter.
+/// An event of an instance of an iter.
 #[derive(Clone, Copy, Debug, PartialEq, Eq, Hash)]
 pub struct Event {
     pub kind: EventKind,
-    /// Where the call stands that started the instance.
+    /// The position of the call that started the instance.
     pub at: Pos,
     /// The number of the instance, from 0 in the order of the starts.
     pub instance: u64,
 }
 
-/// A frame.
+/// A record.
 #[derive(Clone, Copy, Debug, PartialEq, Eq, Hash)]
 pub enum TraceRecord {
     /// A byte of the output.
@@ -37,7 +37,7 @@ pub enum TraceRecord {
 }
 
 impl EventKind {
-    /// The kind that a frame tells by this number, if there is one.
+    /// The kind with this number in a record, if there is one.
     pub(crate) fn of_number(number: u8) -> Option<EventKind>
         ensures { MatchOption result ((kind : Kinds) → kind_number kind ≢ number) (λ kind. kind_number kind ≡ number) }
     {
@@ -51,7 +51,7 @@ impl EventKind {
         }
     }
 
-    /// The word of its lines.
+    /// The word for it in the lines of the trace.
     pub(crate) fn word(self) -> &'static str
         ensures { result.now ≡ word self }
     {

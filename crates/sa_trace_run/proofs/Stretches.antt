@@ -34,7 +34,7 @@ use Rattle.wa_run.specs.Runs.{IsAnswered, IsClosed, IsFront, IsFlushed, Transcri
 use Rattle.wa_run.proofs.Runs.{run-passed, seen}
 use Rattle.sa_trace_run.specs.Stretches.{Beginning, CameTo, GoesOn}
 
--- what was put before stands in front of what a call puts
+-- what was put before comes before what a call puts
 abbrev following : (before : List ℕ) → Sides → (output : List ℕ) → Sides
 following before s output = sides s.input s.ended (Some (before ++ output))
 
@@ -57,7 +57,7 @@ module _ (m : Module) (row : Layout) where
         did = makes.did;
       }
 
-  -- a call that spent its fuel goes on, and what was held is handed on
+  -- a call that spent its fuel goes on, and what was held is written
   pub flushed : (old new : Flat) (start steps : ℕ) (here there : Sides) (held left output : List ℕ) → there.output ≡ Some output → Makes m row old new start steps (Some halt.Spent) here there held left → Makes m row old new start steps None here (sides there.input there.ended (Some (output ++ left))) held []
   flushed old new start steps here there held left output taken makes = record {
     n = makes.n;
@@ -84,7 +84,7 @@ delivered-moved : (given result : Answer) (left before output whole : List ℕ) 
 delivered-moved given result left before output whole (inl (is, took)) = inl (is, took-moved before output whole left took)
 delivered-moved given result left before output whole (inr (some, fault, (k, took))) = inr (some, fault, (k, took-moved before output whole (take k left) took))
 
--- what is handed on behind a call is handed on behind all of them
+-- what is written after a call is written after all of them
 pub closed-moved : (given result : Answer) (left before output whole : List ℕ) → IsClosed given result left (Some output) (Some whole) → IsClosed given result left (Some (before ++ output)) (Some (before ++ whole))
 closed-moved answer.OutFault result left before output whole (is, same) = (is, ap (option_map (λ (t : List ℕ). before ++ t)) same)
 closed-moved answer.NoMemory result left before output whole (is, same) = (is, ap (option_map (λ (t : List ℕ). before ++ t)) same)
@@ -135,7 +135,7 @@ outage-no-input : (given : Answer) → (given ≡ answer.OutFault) ⊎ (given �
 outage-no-input given (inl is) same = subst IsNoInFault (sym is ∙ same) tt
 outage-no-input given (inr is) same = subst IsNoInFault (sym is ∙ same) tt
 
--- where what is held is handed on behind a halt, and the answer is Spent, the halt is
+-- where what is held is written after a halt, and the answer is Spent, the halt is
 pub closed-spent : (h : Halt) (result : Answer) (left : List ℕ) (before after : Option (List ℕ)) → IsClosed (answer_of_halt h) result left before after → result ≡ answer.Spent → h ≡ halt.Spent
 closed-spent (halt.Ended value) result left before after closed spent = absurd (delivered-other (answer.Ended value) result left before after tt closed spent)
 closed-spent (halt.Stopped code site) result left before after closed spent = absurd (delivered-other (answer.Stopped code site) result left before after tt closed spent)
@@ -146,7 +146,7 @@ closed-spent halt.InFault result left before after closed spent = absurd (delive
 closed-spent halt.OutFault result left before after closed spent = absurd (other answer.OutFault tt (sym closed.0 ∙ spent))
 closed-spent halt.NoMemory result left before after closed spent = absurd (other answer.NoMemory tt (sym closed.0 ∙ spent))
 
--- ---- what an answer tells of the input, where the sink never fails
+-- ---- what an answer says of the input, where the sink never fails
 
 rose-none : Rose 0 0 → ⊥
 rose-none (inl less) = omega (arith, less)
@@ -182,7 +182,7 @@ stretch-reported h before after steps fuel result old new reports (inl is) =
     subst (λ (a : Answer). IsFaultReported a (Rose before.input after.input) ⊥) (sym is) (halt-reported h before after steps fuel old new reports)
 stretch-reported h before after steps fuel result old new reports (inr is) = outage-reported result (Rose before.input after.input) is
 
--- ---- an outage behind a stretch
+-- ---- an outage after a stretch
 
 module _ (m : Module) (valid : IsValid m) (linked : IsLinked m) (row : Layout) (flat new : Flat) (begins : (input : Input) → Represents m row flat (first m input)) (fuel steps : ℕ) (outage : Answer) (is_outage : (outage ≡ answer.OutFault) ⊎ (outage ≡ answer.NoMemory)) (answers : List Take) (delivered left : List ℕ) (here mid there : Streams) (gave : Gave answers here.input mid.input) (read : AreRead answers) (took : Took here.output mid.output delivered) (input_is : there.input ≡ mid.input) where
   abbrev IsCut : Type 0
@@ -202,13 +202,13 @@ module _ (m : Module) (valid : IsValid m) (linked : IsLinked m) (row : Layout) (
     holds = answered (delivered ++ more) front outage is_outage;
   }
 
-  -- behind all that is held, or a front of it
+  -- after all that is held, or a prefix of it
   cut-on : (given result : Answer) → IsFlushed given result left mid.output there.output → ((k : ℕ) → IsFront m answers (delivered ++ take k left) steps) → IsCut
   cut-on given result (inl (is, all)) front =
       cut-at left all (subst (λ (bytes : List ℕ). IsFront m answers (delivered ++ bytes) steps) (take-length left) (front (length left)))
   cut-on given result (inr (some, fault, (k, part))) front = cut-at (take k left) part (front k)
 
-  -- behind nothing of it
+  -- after none of it
   cut-off : there.output ≡ mid.output → IsFront m answers delivered steps → IsCut
   cut-off same front =
       cut-at [] (subst (λ (o : Option (List ℕ)). Took mid.output o []) (sym same) (took-none mid.output))
@@ -262,7 +262,7 @@ module _ (b : Beginning) (new : Flat) (fuel steps : ℕ) (within : steps ≤ fue
   run-whole halt.Spent result makes (inr (some, fault, front)) spent =
       run-cut halt.Spent result makes (inr (some, fault, front)) (outage-no-input result fault) result fault
 
--- ---- a stretch behind others
+-- ---- a stretch after others
 
 module _ (b : Beginning) (fuel : ℕ) (put : List ℕ) (old new : Progress) (held left kept mid taken : List ℕ) (from to : Option source.Input) (ended_before ended_after : Bool) (h : Halt) (result : Answer) (goes : GoesOn b old held from ended_before put) (makes : Makes b.program (layout_of old.linked.code) (flat_of old.state) (flat_of new.state) old.steps new.steps (Some h) (sides from ended_before (Some [])) (sides to ended_after (Some mid)) held left) (closed : IsClosed (answer_of_halt h) result left (Some mid) (Some taken)) where
   abbrev whole-sides : Sides

@@ -1,4 +1,4 @@
--- Frames that are handed on behind others.
+-- Records that are written after others.
 use Rattle.std.proofs.Common.{◌≡◌, ◌≢◌, ◌⊎◌, inl, inr, ◌≤◌, ◌+◌, ℕ, Bool, false, Option, List, [], ◌∷◌, ◌++◌, refl, sym, ap, subst, ◌∙◌, arith, append_assoc, append-nil, Some, None}
 use Rattle.host_io.specs.Faults.{Rose}
 use Rattle.host_io.specs.Output.{Grew, Took, TookFront}
@@ -35,7 +35,7 @@ use Rattle.sa_trace_run.specs.Traced.{AreRecordsWritten, AreReported, FrontIsWri
 use Rattle.sa_trace_run.proofs.Stretches.{fault-other, outage-other}
 
 module _ (positions : List Pos) (sources : Sources) where
-  -- the first of the frames are a front of the bytes
+  -- the first of the records are a prefix of the bytes
   frames-front : (bytes : List ℕ) (reported more : List TraceRecord) → AreTraceRecords positions sources bytes (reported ++ more) → (front rest : List ℕ) × (bytes ≡ front ++ rest) × AreTraceRecords positions sources front reported
   frames-front bytes [] more are = ([], bytes, refl, refl)
   frames-front bytes (one ∷ reported) more (first, rest, split, is, others) =
@@ -89,7 +89,7 @@ module _ {positions : List Pos} {sources : Sources} {put : List ℕ} {left : Par
     err_count = omega (arith, so_far.err_count, err_more);
   }
 
-  -- a front of the frames of these bytes
+  -- a prefix of the records of these bytes
   front-of : (bytes : List ℕ) (frames : List TraceRecord) (following : ParserState) (out_new err_new : Sink) (after : ErrStatus) (Heard OfAll : (lines : List ℕ) → Type 0) → HasRead positions sources (put ++ bytes) (so_far.frames ++ frames) following → WritesFront sources frames out_now out_new Heard → ((lines : List ℕ) → Heard lines → OfAll (lines_of sources so_far.frames ++ lines)) → FrontIsWritten positions sources (put ++ bytes) (sinks out_old out_new err_old err_new after) OfAll
   front-of bytes frames following out_new err_new after Heard OfAll read hands hears =
       let split = ap (λ (xs : List TraceRecord). so_far.frames ++ xs) hands.split ∙ sym (append_assoc so_far.frames hands.reported hands.more) in
@@ -116,7 +116,7 @@ module _ {positions : List Pos} {sources : Sources} {put : List ℕ} {left : Par
       front-of bytes frames following out_new err_new after (HearsPart middle after err_now err_new) (HearsPart listening.Yes after err_old err_new) read hands
       (λ lines heard. hears-part listening.Yes middle after err_old err_now err_new (lines_of sources so_far.frames) lines so_far.err_count so_far.hands.err heard)
 
-  -- where it ran out before any frame was found
+  -- where it ran out before any record was found
   pub none-front : (bytes : List ℕ) → FrontIsWritten positions sources (put ++ bytes) (sinks out_old out_now err_old err_now middle) (HearsPart listening.Yes middle err_old err_now)
   none-front bytes = record {
     front = so_far.read.front;
@@ -128,7 +128,7 @@ module _ {positions : List Pos} {sources : Sources} {put : List ℕ} {left : Par
     err = hears-whole listening.Yes middle err_old err_now (lines_of sources so_far.frames) so_far.hands.err;
   }
 
--- ---- what the answer of a stretch tells of the sources and sinks
+-- ---- what the answer of a stretch says of the sources and sinks
 
 pub reported-more : (given : Answer) (input_failed out_failed input_fails out_fails : Type 0) → (input_failed → input_fails) → (out_failed → out_fails) → IsFaultReported given input_failed out_failed → IsFaultReported given input_fails out_fails
 reported-more answer.Malformed input_failed out_failed input_fails out_fails more_input more_out reported = tt
@@ -162,7 +162,7 @@ outage-runs result (inr is) before = subst IsBeforeRun is before
 -- ---- how a stretch ends
 
 module _ {b : Beginning} {positions : List Pos} {sources : Sources} {fuel : ℕ} {given : Answer} {machine : Progress} {held : List ℕ} {input : Option source.Input} {ended : Bool} {put : List ℕ} (came : CameTo b fuel given machine held input ended put) where
-  -- all was told
+  -- all was reported
   pub stretch-reported-all : (left : ParserState) (s : Sinks) → SoFar positions sources put left s → IsStretch b positions sources fuel given machine held left input ended s
   stretch-reported-all left s so_far = record {
     put = put;
@@ -186,7 +186,7 @@ module _ {b : Beginning} {positions : List Pos} {sources : Sources} {fuel : ℕ}
     goes = λ spent. absurd (outage-other result (inr (short refl)) spent);
   }
 
-  -- an outage came behind a fault of the input
+  -- an outage came after a fault of the input
   pub stretch-in-fault : (left : ParserState) (out_old out_new err_old err_new : Sink) (before after : ErrStatus) (what : Outage) → given ≡ answer.InFault → (what ≡ outage.Failed → after ≡ before) → (what ≡ outage.NoMemory → after ≡ listening.NoMemory) → (what ≡ outage.Failed → Rose out_old.faults out_new.faults × FrontIsWritten positions sources put (sinks out_old out_new err_old err_new before) (Hears listening.Yes before err_old err_new)) → FrontIsWritten positions sources put (sinks out_old out_new err_old err_new before) (HearsPart listening.Yes before err_old err_new) → IsStretch b positions sources fuel answer.InFault machine held left input ended (sinks out_old out_new err_old err_new after)
   stretch-in-fault left out_old out_new err_old err_new before after outage.Failed is failed short lines part = record {
     put = put;
@@ -229,7 +229,7 @@ module _ (positions : List Pos) (sources : Sources) where
         (inl (all-delivered positions sources [] (record { begun = []; wrong = false }) (sinks out out err err listening.Yes) (so-far-none positions sources out err))),
   )
 
-  -- what out has is behind what it had
+  -- what out has is what it had, and more after it
   pub reported-grew : (bytes : List ℕ) (s : Sinks) (given : Answer) → AreReported positions sources bytes s given → Grew s.out_old.taken s.out_new.taken
   reported-grew bytes s given (inl all) = Grew-took s.out_old.taken s.out_new.taken (output_of all.frames) all.hands.out
   reported-grew bytes s given (inr (inl (is, rose, front))) = Grew-front s.out_old.taken s.out_new.taken (output_of front.reported) front.out

@@ -57,15 +57,15 @@ module _ (b : Beginning) where
         → HasRunTo fuel outage machine.steps input put
     pub goes : given ≡ answer.Spent → GoesOn machine held input ended put
 
-  -- a run that can go on, and all frames of what it has put so far were handed on
+  -- a run that can go on, and all records of what it has put so far were written
   pub record IsUnderWay (positions : List Pos) (sources : Sources) (machine : Progress) (held : List ℕ) (left : ParserState)
       (input : Option source.Input) (ended : Bool) (s : Sinks) : Type 0 where
     pub put : List ℕ
     pub goes : GoesOn machine held input ended put
     pub so_far : SoFar positions sources put left s
 
-  -- A stretch of a run under way ends with this answer, and what the run has put was told. The answer is that of the run, if no
-  -- more fuel is left where it is spent
+  -- A stretch of a run under way ends with this answer, and what the run has put was reported. The answer is that of the run, if no more
+  -- fuel is left where it is spent
   pub record IsStretch (positions : List Pos) (sources : Sources) (fuel : ℕ) (given : Answer) (machine : Progress) (held : List ℕ)
       (left : ParserState) (input : Option source.Input) (ended : Bool) (s : Sinks) : Type 0 where
     pub put : List ℕ

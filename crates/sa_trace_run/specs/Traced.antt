@@ -1,4 +1,4 @@
--- What the run of a traced module left of out and err.
+-- The effect of the run of a traced module on out and err.
 use Rattle.std.specs.Prelude.{◌≡◌, ◌⊎◌, ◌≤◌, ℕ, List, ◌++◌}
 use Rattle.host_io.specs.Faults.{Rose}
 use Rattle.host_io.specs.Output.{TookFront}
@@ -13,7 +13,7 @@ use Rattle.sa_trace.specs.declared.sinks.ErrStatus.TheVariants as listening
 use Rattle.wa_run.specs.declared.answer.Answer.{Answer}
 use Rattle.wa_run.specs.declared.answer.Answer.TheVariants as answer
 
--- what a run left of out and err, and whether err still listens
+-- out and err after a run, and whether err still takes lines
 pub record Sinks : Type 0 where
   pub out_old : Sink
   pub out_new : Sink
@@ -34,13 +34,13 @@ abbrev pub IsShort : Answer → ErrStatus → Type 0
 IsShort given now = (given ≡ answer.NoMemory) ⊎ ((given ≡ answer.InFault) × (now ≡ listening.NoMemory))
 
 module _ (positions : List Pos) (sources : Sources) where
-  -- all frames of the bytes were handed on
+  -- all records of the bytes were written
   pub record AreRecordsWritten (bytes : List ℕ) (s : Sinks) : Type 0 where
     pub frames : List TraceRecord
     pub framed : TraceEncoding positions sources bytes frames
     pub hands : WritesRecords sources frames s.out_old s.out_new listening.Yes s.listening s.err_old s.err_new
 
-  -- so were the frames of a front of the bytes, but for a part of their output, and this was heard of their events
+  -- so were the records of a prefix of the bytes, but for a part of their output, and this holds of the lines of their events
   pub record FrontIsWritten (bytes : List ℕ) (s : Sinks) (Heard : (lines : List ℕ) → Type 0) : Type 0 where
     pub front : List ℕ
     pub rest : List ℕ
@@ -50,7 +50,7 @@ module _ (positions : List Pos) (sources : Sources) where
     pub out : TookFront s.out_old.taken s.out_new.taken (output_of reported)
     pub err : Heard (lines_of sources reported)
 
-  -- The bytes are frames, which were handed on: all of them, or up to where out failed, or to where memory ran out
+  -- The bytes are records, which were written: all of them, or up to where out failed, or to where memory ran out
   abbrev pub AreReported : (bytes : List ℕ) → Sinks → Answer → Type 0
   AreReported bytes s given =
       AreRecordsWritten bytes s
@@ -58,7 +58,7 @@ module _ (positions : List Pos) (sources : Sources) where
       × FrontIsWritten bytes s (Hears listening.Yes s.listening s.err_old s.err_new))
       ⊎ (IsShort given s.listening × FrontIsWritten bytes s (HearsPart listening.Yes s.listening s.err_old s.err_new))
 
-  -- so far all frames of these bytes were handed on, and this is left behind them
+  -- so far all records of these bytes were written, and this remains after them
   pub record SoFar (bytes : List ℕ) (left : ParserState) (s : Sinks) : Type 0 where
     pub frames : List TraceRecord
     pub read : HasRead positions sources bytes frames left

@@ -1,4 +1,4 @@
-//! The run of a traced module: what it puts is parted into frames, and these are handed on.
+//! The run of a traced module: its output is parsed into records, and these are written to out and err.
 #![tactic(auto)]
 
 mod stretch;

@@ -1,4 +1,4 @@
-//! A stretch of a run: the module runs up to a number of steps, and what it has put is parted into frames, which are handed on.
+//! A stretch of a run: the module runs up to a number of steps, and its output is parsed into records, which are written.
 
 ghost use Rattle.std.specs.Prelude.{◌≡◌, ◌≤◌, ◌++◌, ℕ, List, [], None, IsErrOf, OnErr, OnOk};
 ghost use Rattle.host_io.specs.Faults.{Rose};
@@ -14,7 +14,7 @@ use std::alloc::Global;
 use wa_exec::{Host, Machine};
 use wa_run::{Answer, answer_after_flush, answer_of_halt};
 
-/// A run that has begun: the machine, what it has put and not handed on, and what has become of its frames.
+/// A run that has begun: the machine, the output that it has put and that isn't written yet, and the state of its records.
 #[derive(Drop)]
 pub(crate) struct TracedState {
     pub(crate) machine: Machine,
@@ -23,7 +23,7 @@ pub(crate) struct TracedState {
     pub(crate) listening: ErrStatus,
 }
 
-/// Runs until so many steps are made in all, and hands on the frames that end there.
+/// Runs until `end` steps are made in total, and writes the records that end there.
 pub(crate) fn stretch<I: Source, O: Sink, E: Sink>(
     alloc: Global,
     running: &mut TracedState,
@@ -43,7 +43,7 @@ pub(crate) fn stretch<I: Source, O: Sink, E: Sink>(
     ensures goes { result ≡ Answer.Spent → running.new.machine.halt ≡ None }
     ensures source { I.faults input.old ≤ I.faults input.new }
     ensures sink { O.faults out.old ≤ O.faults out.new }
-    // Whatever the run has put and told before, it is one run with this stretch.
+    // Whatever the run has put and reported before, it is one run with this stretch.
     ensures made { (b : Beginning) (fuel : ℕ) (out_old err_old : Taken) → end ≤ fuel
         → IsUnderWay b positions.now sources.now running.old.machine running.old.host running.old.parting (I.input input.old)
         (I.ended input.old) (sinks out_old (sink (O.output out.old) (O.faults out.old)) err_old
@@ -73,7 +73,7 @@ pub(crate) fn stretch<I: Source, O: Sink, E: Sink>(
     match reported {
         Ok(()) => answer,
         Err(outage) => match answer {
-            // It came first.
+            // The fault of the input came first.
             Answer::InFault => {
                 running.listening = listening_behind(outage, running.listening);
                 Answer::InFault
@@ -83,7 +83,7 @@ pub(crate) fn stretch<I: Source, O: Sink, E: Sink>(
     }
 }
 
-/// Runs until so many steps are made in all, and puts into the buffer what the module puts.
+/// Runs until `end` steps are made in total, and puts into the buffer what the module puts.
 fn put_until<I: Source>(
     machine: &mut Machine,
     end: u64,
@@ -108,7 +108,7 @@ fn put_until<I: Source>(
     answer_after_flush(answer_of_halt(halt), host, buffer)
 }
 
-/// Hands on the frames that end in these bytes.
+/// Writes the records that end in these bytes.
 fn tell<O: Sink, E: Sink>(
     alloc: Global,
     bytes: &[u8],
@@ -146,7 +146,7 @@ fn tell<O: Sink, E: Sink>(
     }
 }
 
-/// Whether err still takes lines, where the input has failed and an outage came behind it.
+/// Whether err still takes lines, where the input has failed and an outage came after it.
 fn listening_behind(outage: Outage, listening: ErrStatus) -> ErrStatus
     ensures failed { outage ≡ Outage.Failed → result ≡ listening }
     ensures short { outage ≡ Outage.NoMemory → result ≡ ErrStatus.NoMemory }

@@ -21,7 +21,7 @@ use wa_exec::{Host, Machine};
 use wa_run::{Answer, RunResult, answer_of_start};
 use wa_valid::Valid;
 
-/// How many steps a machine makes before what it has put is parted.
+/// How many steps a machine makes before its output is parsed.
 const STRETCH: u64 = 4096;
 
 /// The run of a traced module.
@@ -32,9 +32,9 @@ pub struct TracedRun {
     pub listening: ErrStatus,
 }
 
-/// Runs a valid module whose output is frames, with at most `fuel` steps, where the sites of its program have these positions. The
-/// bytes of the output go to out, and the lines of the events to err, in the order of the frames. Both come behind the stretch of
-/// 4,096 steps in which the module puts them, also where it waits for input meanwhile.
+/// Runs a valid module whose output is records, with at most `fuel` steps, where the sites of its program have these positions. The bytes
+/// of the output go to out, and the lines of the events to err, in the order of the records. Both come after the stretch of 4,096 steps in
+/// which the module puts them, also where it waits for input meanwhile.
 pub fn run_traced<I: Source, O: Sink, E: Sink>(
     alloc: Global,
     module: &Valid,
@@ -51,7 +51,7 @@ pub fn run_traced<I: Source, O: Sink, E: Sink>(
     ensures within { result.run.steps ≤ fuel }
     ensures output { Grew (O.output out.old) (O.output out.new) }
     ensures untouched { IsBeforeRun result.run.answer → (out.new ≡ out.old) × (input.new ≡ input.old) × (err.new ≡ err.old) }
-    // The run is that of the standard's machine, with these bytes as its output; they are frames, and out and err took what these say.
+    // The run is that of the standard's machine, with these bytes as its output; they are records, and out and err took what these say.
     ensures ran { (framed : List ℕ)
         × HasRunModule «module».now fuel result.run (streams (I.input input.old) (Some [])) (streams (I.input input.new) (Some framed))
         × AreReported positions.now sources.now framed (sinks (sink (O.output out.old) (O.faults out.old))

@@ -1,4 +1,4 @@
--- What is above the types of a well-typed tree: what is above what is above a type is above it, and is abstract or a bound type.
+-- The supertypes in a well-typed AST: a supertype of a supertype of a type is one of its supertypes, and is abstract or a bound type.
 use Rattle.std.proofs.Common.{◌≡◌, ℕ, zero, suc, ◌+◌, ◌≤◌, ◌⊎◌, inl, inr, Bool, true, false, ◌&&◌, ◌==◌, nat_lt, List, [], ◌∷◌, length, Option, Some, None, slice_get, refl, sym, ap, subst, ◌∙◌, true≢false, eqb-true, le_refl, arith}
 use Rattle.std.specs.Prelude.{nat_eq}
 use Rattle.std.specs.List.{list_any}
@@ -64,7 +64,7 @@ none_in : (list : List ℕ) (a : ℕ) → length list ≤ 0 → is_in a list ≡
 none_in [] a le i = true≢false (sym i)
 none_in (b ∷ more) a le i = omega (arith, le)
 
--- ---- what the conditions say of one of the types above
+-- ---- what the conditions say of one of the supertypes
 
 module _ (w : Rows) where
   uppers_at : (n : ℕ) (list : List ℕ) (a : ℕ) → are_valid_supertypes w n list ≡ true → is_in a list ≡ true → is_valid_supertype w n a ≡ true
@@ -94,7 +94,7 @@ module _ (w : Rows) where
   both_some (Some x) None h = absurd (true≢false (sym h))
   both_some (Some x) (Some y) h = (x, y, refl, refl, h)
 
--- ---- what is above a type is in its list
+-- ---- each supertype of a type is in its list
 
 above_in : (a : ℕ) (t : TypeDef) → has_supertype a t ≡ true → is_in a t.above ≡ true
 unfolding has_supertype
@@ -131,7 +131,7 @@ module _ {w : Rows} {number : ℕ} (well : AreWellTyped w number) where
   closed_of : (c : ℕ) (t : TypeDef) → slice_get w.types c ≡ Some t → is_closed w c t.above ≡ true
   closed_of c t e = second_of (are_valid_supertypes w c t.above) (is_closed w c t.above) (second_of (rises_from None t.above) (are_valid_supertypes w c t.above && is_closed w c t.above) (above_at c t e))
 
-  -- ---- what is above what is above a type
+  -- ---- a supertype of a supertype
 
   abbrev Reaches : ℕ → ℕ → TypeDef → Type 0
   Reaches a c t = (a ≡ c) ⊎ (is_in a t.above ≡ true)
@@ -141,7 +141,7 @@ module _ {w : Rows} {number : ℕ} (well : AreWellTyped w number) where
       let found = some_that (λ (u : TypeDef). is_part u.above (put_in c t.above)) (slice_get w.types b) (held_at w (put_in c t.above) t.above b held i) in
       put_from c a t.above (part_in (put_in c t.above) found.0.above a found.2 (is_above_in a b found.0 found.1 h))
 
-  -- where one of them has all the others above it, it is so of that one
+  -- where all the others are supertypes of one of them, it is so of that one
   by_next : (c : ℕ) (t : TypeDef) (a b n : ℕ) (u : TypeDef) → slice_get w.types n ≡ Some u → MakesUp n t.above u → is_strict_supertype w a b ≡ true → is_in b t.above ≡ true → (is_in b u.above ≡ true → Reaches a n u) → Reaches a c t
   by_next c t a b n u e made h i on =
       let into : (a ≡ n) ⊎ (is_in a u.above ≡ true) → Reaches a c t = λ r. inr (subst (λ list. is_in a list ≡ true) made.same (put_into n a u.above r)) in
@@ -176,7 +176,7 @@ module _ {w : Rows} {number : ℕ} (well : AreWellTyped w number) where
             [ inl e ↦ subst (λ n. is_supertype w a n ≡ true) (eqb-true b c e) h | inr more ↦ above_both a b c up more ]
       ]
 
-  -- ---- which types are above others
+  -- ---- which types are supertypes of others
 
   pub above_is : (upper lower : ℕ) → is_strict_supertype w upper lower ≡ true → (is_abstract w upper ≡ true) ⊎ ((a : CallType) × (b : CallType) × (call_type_at w.bound lower ≡ Some a) × (call_type_at w.bound upper ≡ Some b) × (call_types_alike w a b ≡ true))
   above_is upper lower h =

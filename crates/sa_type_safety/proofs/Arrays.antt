@@ -19,7 +19,7 @@ use Rattle.sa_type_safety.proofs.Passing.{holds_above}
 use Rattle.sa_type_safety.proofs.Dynamic.{held_plain}
 use Rattle.sa_type_safety.proofs.Forms.{char_form}
 
--- ---- places of lists
+-- ---- indices of lists
 
 there_at : {A : Type 0} (list : List A) (m : ℕ) → m < length list → (a : A) × (slice_get list m ≡ Some a)
 there_at [] m h = absurd (omega (arith, h))
@@ -38,7 +38,7 @@ below (pos m) n h =
     omega (arith, leb-false n m apart)
 below (negsuc m) n h = absurd (true≢false (sym h))
 
--- a list has something at an index that is a place of it
+-- a list has an element at a number that is an index of it
 pub placed : {A : Type 0} (list : List A) (z : ℤ) → is_index z (length list) ≡ true → (a : A) × (slice_get list (index_of z) ≡ Some a)
 placed list z h = there_at list (index_of z) (below z (length list) h)
 
@@ -54,7 +54,7 @@ each_take P (suc n) (a ∷ list) h = (h.0, each_take P n list h.1)
 pub record ArrayFacts (w : Rows) : Type 0 where
   pub array_unbound : (ty : ℕ) → has_array w ty ≡ true → call_type_at w.bound ty ≡ None
 
--- what the setting says of them
+-- what the facts of the program say of them
 pub array_facts : {w : Rows} {p : Program} → ProgramFacts w p → ArrayFacts w
 array_facts k = record { array_unbound = k.array_unbound }
 

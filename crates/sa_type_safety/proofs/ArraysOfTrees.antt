@@ -1,4 +1,4 @@
--- The classes with elements of a well-typed tree are no bound types.
+-- The classes with elements of a well-typed AST are no bound types.
 use Rattle.std.proofs.Common.{◌≡◌, ℕ, false, true, not, ◌&&◌, ◌==◌, length, Option, Some, None, is_some, refl, sym, ◌∙◌, true≢false}
 use Rattle.std.proofs.lemmas.Option.{none-some}
 use Rattle.sa_ast.specs.Types.{BareTy, Named, Same, Rout, Iter, bare}

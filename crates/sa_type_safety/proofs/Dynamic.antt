@@ -1,4 +1,4 @@
--- The types that values have when a program runs, and the forms of values of a type.
+-- The dynamic types of values, and the forms of values of a type.
 use Rattle.std.proofs.Common.{◌≡◌, ℕ, inl, inr, true, false, ◌==◌, List, map, Some, None, slice_get, option_and_then, refl, sym, ap, subst, ◌∙◌, true≢false, eqb-true}
 use Rattle.std.proofs.lemmas.Option.{none-some}
 use Rattle.sa_typing.specs.Rows.{Rows, is_supertype, is_strict_supertype, is_abstract, is_immutable, call_type_at}
@@ -14,7 +14,7 @@ use Rattle.sa_type_safety.proofs.Worlds.{get_object}
 use Rattle.sa_type_safety.proofs.Passing.{above_loose, holds_itself, holds_above, held_alone}
 
 module _ {w : Rows} {p : Program} (k : ProgramFacts w p) where
-  -- what holds another type is it, where it is neither abstract nor a bound type
+  -- a supertype that is neither abstract nor a bound type is the type itself
   pub held_plain : (upper lower : ℕ) → is_abstract w upper ≡ false → call_type_at w.bound upper ≡ None → is_supertype w upper lower ≡ true → upper ≡ lower
   held_plain upper lower a b e =
       elim (one_of (upper == lower) (is_strict_supertype w upper lower) e) as (λ x. upper ≡ lower) [
@@ -23,9 +23,9 @@ module _ {w : Rows} {p : Program} (k : ProgramFacts w p) where
             [ inl c ↦ absurd (true≢false (sym c ∙ a)) | inr c ↦ absurd (none-some c.1 (sym b ∙ c.3)) ]
       ]
 
-  -- ---- the type that a value has
+  -- ---- the dynamic type of a value
 
-  -- a value that isn't void has a type, which that of its place holds
+  -- a value that isn't void has a dynamic type, of which the static type is a supertype
   pub record Dynamic (objects : List Object) (ks : List ObjectType) (ty : ℕ) (v : Value) : Type 0 where
     pub own : ℕ
     pub is : type_of objects v ≡ Some own

@@ -1,4 +1,4 @@
--- What the types of a well-typed tree are by their kinds: abstract, immutable or bound; and what the types are that each program has.
+-- What the types of a well-typed AST are by their kinds: abstract, immutable or bound; and what the types are that each program has.
 use Rattle.std.proofs.Common.{◌≡◌, ℕ, inl, inr, true, false, not, ◌&&◌, ◌||◌, ◌==◌, List, [], ◌∷◌, length, Option, Some, None, slice_get, option_map, option_and_then, is_some, is_none, refl, sym, ap, ◌∙◌, true≢false, eqb-true, arith}
 use Rattle.std.specs.Option.{option_map_or}
 use Rattle.std.proofs.lemmas.Option.{none-some, slice_get-map}
@@ -63,7 +63,7 @@ shape_of_type see None a e = absurd (none-some a e)
 shape_of_type see (Some t) a e = (t, refl, e)
 
 module _ (core : TypedProgram) (well : IsWellTyped core) where
-  -- ---- what is seen of a type
+  -- ---- what is read of a type
 
   pub seen : {A : Type 0} (see : TypeDef → A) (other : A) (ty : ℕ) (t : TypeDef) → slice_get core.types ty ≡ Some t → of_type (rows_of core) see other ty ≡ see t
   seen see other ty t e = ap (λ (o : Option TypeDef). option_map_or see o other) e
@@ -81,7 +81,7 @@ module _ (core : TypedProgram) (well : IsWellTyped core) where
   bound_fits ty t (Rout arguments of) a e h = fits_parts ty t h
   bound_fits ty t (Iter arguments of) a e h = fits_parts ty t h
 
-  -- a bound type with this shape is a reference without attributes
+  -- a bound type with this call type is a reference without attributes
   pub record IsBoundType (ty : ℕ) (a : CallType) : Type 0 where
     pub t : TypeDef
     pub is : slice_get core.types ty ≡ Some t

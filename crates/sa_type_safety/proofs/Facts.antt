@@ -1,4 +1,4 @@
--- What the conditions of a well-typed tree say of its rows, one by one.
+-- What the conditions of a well-typed AST say of its rows, one by one.
 use Rattle.std.proofs.Common.{◌≡◌, ℕ, zero, suc, ◌+◌, ◌⊎◌, inl, inr, Bool, true, false, not, ◌&&◌, ◌||◌, ◌==◌, cond, List, [], ◌∷◌, Option, Some, None, slice_get, find, option_map, is_some, is_none, refl, sym, ap, ap₂, subst, ◌∙◌, true≢false, eqb-true, arith}
 use Rattle.std.specs.Prelude.{nat_eq}
 use Rattle.std.specs.List.{list_all, list_any}
@@ -45,7 +45,7 @@ all_at test [] i a h e = absurd (none-some a e)
 all_at test (b ∷ more) zero a h e = subst (λ x. test x ≡ true) (same_Some b a e) (first_of _ _ h)
 all_at test (b ∷ more) (suc i) a h e = all_at test more i a (second_of _ _ h) e
 
--- ---- rows by their numbers
+-- ---- rows by their indices
 
 module _ (w : Rows) where
   type_from : (n : ℕ) (list : List TypeDef) (i : ℕ) (t : TypeDef) → well_types w n list ≡ true → slice_get list i ≡ Some t → well_type w (n + i) t ≡ true
@@ -71,7 +71,7 @@ module _ {w : Rows} {number : ℕ} (well : AreWellTyped w number) where
   pub shared_at : (k : ℕ) (s : TypedShared) → slice_get w.shareds k ≡ Some s → well_shared w s ≡ true
   shared_at k s e = all_at (well_shared w) w.shareds k s well.shareds e
 
--- ---- the program that the tree means has the same rows
+-- ---- the program of the semantics has the same rows as the AST
 
 module _ (core : TypedProgram) where
   pub program_type : (ty : ℕ) (t : TypeDef) → slice_get core.types ty ≡ Some t → slice_get (program_of core).types ty ≡ Some (type_row t)
@@ -137,7 +137,7 @@ module _ (core : TypedProgram) where
   same_holds ty other =
       ap (λ b. ty == other || b) (ap (λ list. is_some (find (λ above. above == ty) list)) (same_of_type (λ t. t.above) [] other) ∙ above_found ty (slice_get core.types other))
 
--- ---- a type that is there
+-- ---- a type of the program
 
 pub some_that : {A : Type 0} (see : A → Bool) (o : Option A) → option_map_or see o false ≡ true → (a : A) × (o ≡ Some a) × (see a ≡ true)
 some_that see None h = absurd (true≢false (sym h))
@@ -153,7 +153,7 @@ two_ints (a ∷ []) h = absurd (true≢false (sym h))
 two_ints (a ∷ b ∷ c ∷ more) h = absurd (true≢false (sym h))
 two_ints (a ∷ b ∷ []) h = ap₂ (λ x y. x ∷ y ∷ []) (eqb-true a int_type (first_of _ _ h)) (eqb-true b int_type (second_of _ _ h))
 
--- ---- the given types
+-- ---- the types that each program has
 
 module _ {w : Rows} {number : ℕ} (well : AreWellTyped w number) where
   given_from_fault : (is_plain_reference w fault_type && (has_fault_attributes w && is_strict_supertype w ob_type fault_type)) ≡ true

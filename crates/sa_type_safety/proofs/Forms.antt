@@ -1,4 +1,4 @@
--- The forms of the values of the given types.
+-- The canonical forms of the values of the types that each program has.
 use Rattle.std.proofs.Common.{◌≡◌, ℕ, Bool, true, false, not, ◌&&◌, ◌==◌, ℤ, List, [], Some, is_some, refl, sym, ap, subst, ◌∙◌, true≢false}
 use Rattle.std.proofs.lemmas.Bool.{eq-eqb}
 use Rattle.sa_typing.specs.Rows.{Rows, has_objects, is_immutable, is_reference, call_type_at}
@@ -13,7 +13,7 @@ use Rattle.sa_type_safety.proofs.Passing.{above_loose, held_alone, holds_above}
 use Rattle.sa_type_safety.proofs.Dynamic.{held_plain}
 
 module _ {w : Rows} {p : Program} (k : ProgramFacts w p) where
-  -- ---- a type that is immutable has values of its own alone
+  -- ---- an immutable type is a supertype of itself alone
 
   module _ (ks : List ObjectType) (ty : ℕ) (fixed : is_immutable w ty ≡ true) where
     not_void : HasType w ks Void ty → ⊥
@@ -31,7 +31,7 @@ module _ {w : Rows} {p : Program} (k : ProgramFacts w p) where
     not_wide : (v : Value) → HasType w ks (Boxed v) ty → ⊥
     not_wide v h = true≢false (sym fixed ∙ above_loose k ty h.0 h.3)
 
-    -- a value of an immutable class isn't widened
+    -- a value of an immutable class isn't boxed
     pub raw_is : (v : Value) → HasType w ks v ty → is_unboxed ty v ≡ true
     raw_is Void h = absurd (not_void h)
     raw_is (Int z) h = eq-eqb int_type ty (sym h)

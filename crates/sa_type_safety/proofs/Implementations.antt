@@ -1,4 +1,5 @@
--- A signature has an implementation of each concrete type below: they stand by rising numbers, each is one of them, and they are as many.
+-- A signature has an implementation of each concrete subtype: they are in the order of rising indices, each is one of them, and they are as
+-- many.
 use Rattle.std.proofs.Common.{◌≡◌, ℕ, zero, suc, ◌+◌, ◌≤◌, inl, inr, Bool, true, false, not, ◌&&◌, ◌==◌, nat_lt, cond, find, count_by, List, [], ◌∷◌, map, length, Option, Some, None, slice_get, is_none, sym, ap, subst, ◌∙◌, true≢false, eqb-true, arith}
 use Rattle.std.specs.Prelude.{nat_eq}
 use Rattle.std.specs.Option.{option_map_or}
@@ -29,10 +30,10 @@ rise_below : (n m : ℕ) (list : List ℕ) → n ≤ m → Rise m list → Rise 
 rise_below n m [] le r = tt
 rise_below n m (k ∷ more) le r = (omega (arith, le, r.0), r.1)
 
--- ---- numbers of places in a list at which a test is true
+-- ---- indices of a list at which a test is true
 
 module _ {A : Type 0} (test : A → Bool) where
-  -- the number of such a place, where the list begins at a number
+  -- the number of such an element, where the elements are numbered from a number on
   record At (n : ℕ) (list : List A) (k : ℕ) : Type 0 where
     pub place : ℕ
     pub element : A
@@ -72,7 +73,7 @@ module _ {A : Type 0} (test : A → Bool) where
       elim (cases_Bool (test a)) as (λ x. count_by test list ≤ count_by test (a ∷ list))
       [ inl h ↦ omega (arith, counted_first a list h) | inr h ↦ omega (arith, counted_other a list h) ]
 
-  -- there are no more rising numbers of such places than there are such places
+  -- there are no more rising numbers of such elements than there are such elements
   no_more : (list : List A) (n : ℕ) (numbers : List ℕ) → Rise n numbers → Each (At n list) numbers → length numbers ≤ count_by test list
   no_more [] n [] r e = omega arith
   no_more [] n (k ∷ more) r e = absurd (nowhere n k e.0)
@@ -92,19 +93,19 @@ module _ {A : Type 0} (test : A → Bool) where
   moved : (n place : ℕ) (numbers : List ℕ) → is_in (n + 1 + place) numbers ≡ true → is_in (n + suc place) numbers ≡ true
   moved n place numbers h = subst (λ k. is_in k numbers ≡ true) (omega arith) h
 
-  -- the first number is that of the first place
+  -- the first number is that of the first element
   at_first : (a : A) (list : List A) (n k : ℕ) (more : List ℕ) (place : ℕ) (element : A) → k ≡ n → slice_get (a ∷ list) place ≡ Some element → ((after : ℕ) → slice_get list after ≡ Some element → is_in (n + 1 + after) more ≡ true) → is_in (n + place) (k ∷ more) ≡ true
   at_first a list n k more zero element same is on = or_left (nat_eq (n + zero) k) (is_in (n + zero) more) (eq-eqb (n + zero) k (omega (arith, same)))
   at_first a list n k more (suc place) element same is on = or_right (nat_eq (n + suc place) k) (is_in (n + suc place) more) (moved n place more (on place is))
 
-  -- the test is false at the first place, and the first number is greater
+  -- the test is false at the first element, and the first number is greater
   after_first : (a : A) (list : List A) (n k : ℕ) (more : List ℕ) (place : ℕ) (element : A) → count_by test (a ∷ list) ≡ length (k ∷ more) → length (k ∷ more) ≤ count_by test list → slice_get (a ∷ list) place ≡ Some element → test element ≡ true → ((after : ℕ) → slice_get list after ≡ Some element → count_by test list ≡ length (k ∷ more) → is_in (n + 1 + after) (k ∷ more) ≡ true) → is_in (n + place) (k ∷ more) ≡ true
   after_first a list n k more zero element count le is passes on =
       absurd (omega (arith, count, le, counted_first a list (ap test (same_Some a element is) ∙ passes)))
   after_first a list n k more (suc place) element count le is passes on =
       moved n place (k ∷ more) (on place is (omega (arith, count, le, counted_more a list)))
 
-  -- where they are as many, each such place is one of them
+  -- where they are as many, the number of each such element is one of them
   all_of_them : (list : List A) (n : ℕ) (numbers : List ℕ) → Rise n numbers → Each (At n list) numbers → count_by test list ≡ length numbers → (place : ℕ) (element : A) → slice_get list place ≡ Some element → test element ≡ true → is_in (n + place) numbers ≡ true
   all_of_them [] n numbers r e count place element is passes = absurd (none-some element is)
   all_of_them (a ∷ list) n [] r e count zero element is passes =
@@ -139,7 +140,7 @@ module _ {w : Rows} {number : ℕ} (well : AreWellTyped w number) where
   rises [] h = tt
   rises (i ∷ more) h = (omega arith, rises_after i.ty more h)
 
-  -- the type of an implementation is concrete and below that of the signature
+  -- the type of an implementation is concrete and a subtype of that of the signature
   lower_at : (upper ty : ℕ) → is_strict_supertype w upper ty ≡ true → is_abstract w ty ≡ false → (t : TypeDef) × (slice_get w.types ty ≡ Some t) × (is_lower upper t ≡ true)
   lower_at upper ty up concrete =
       let found = some_that (has_supertype upper) (slice_get w.types ty) up in

@@ -1,4 +1,5 @@
--- Calls hand over what is taken, and bring back what is given: through a signature or a bound type too.
+-- Calls pass values of the parameters' types, and copy out values of the types that the caller sees: through a signature or a bound type
+-- too.
 use Rattle.std.proofs.Common.{◌≡◌, ℕ, suc, ◌⊎◌, inl, inr, Bool, true, false, ◌==◌, List, [], ◌∷◌, map, drop, Option, Some, None, slice_get, option_map, refl, sym, ap, ap₂, subst, ◌∙◌, true≢false}
 use Rattle.std.proofs.lemmas.Bool.{and_from, or_left, eq-eqb}
 use Rattle.std.proofs.lemmas.Option.{same_Some, none-some}
@@ -27,9 +28,9 @@ use Rattle.sa_type_safety.proofs.Safe.{Point, Safe, safe_then, safe_before, safe
 use Rattle.sa_type_safety.proofs.SafeSteps.{safe_object_at}
 use Rattle.sa_type_safety.proofs.Passing.{GivenWell, GivenBelow, ArgThat, safe_widened_if, safe_widened_some, safe_widened_all, given_later, given_conforms, Came, BackWell, WidensBack, came_later, safe_widened_back, safe_copied_back}
 
--- ---- what is handed over, as the callee takes it
+-- ---- what is passed, as the callee takes it
 
--- what a call gives, of this type, is of the type that the caller sees, widened where that is abstract
+-- what a call gives, of this type, is of the type that the caller sees, boxed where that is abstract
 abbrev pub GoesBack : Rows → Option ℕ → Option ℕ → Bool → Type 0
 GoesBack w (Some own) (Some ty) wide = ((wide ≡ is_abstract w ty) × (is_supertype w ty own ≡ true)) ⊎ ((wide ≡ false) × (own ≡ ty))
 GoesBack w None None wide = wide ≡ false
@@ -54,7 +55,7 @@ module _ {w : Rows} {p : Program} (k : ProgramFacts w p) where
   safe_result at None (Some ty) wide v g h = absurd g
   safe_result at None None wide v g h = safe_if wide (λ t. absurd (true≢false (sym t ∙ g))) (λ t. safe_pure v (λ ks f. tt))
 
-  -- what a call brings back is of the type that the caller sees, and so are the variables that get a value back
+  -- the result of a call is of the type that the caller sees, and so are the variables that get a value back
   pub safe_brought : {base : List ObjectType} {x : Point} (at : Pos) (again : Bool) (class : ℕ) (t : Target) (own : List ParamType) (seen : Option ℕ) (h : PassedArgs) (r : Value × List Value) → IsLocal w x.local → PassedArgsWell w base x.local.frame.vars again class t own seen h → HasTypeIf w base (target_result w class t) r.0 → Came w base own r.1 → Safe w base x Value (λ ks v. HasTypeIf w ks seen v) (copy_results p at h r)
   safe_brought at again class t own seen h r l well is came =
       safe_then (safe_result at (target_result w class t) seen h.wide r.0 well.gives is)
@@ -84,14 +85,14 @@ module _ (w : Rows) where
   conform_itself [] = tt
   conform_itself (o ∷ own) = (param_conforms_itself o, conform_itself own)
 
-  -- nothing of a call that isn't dispatched is widened
+  -- nothing of a call that isn't dispatched is boxed
   static_widens : (vars : List ℕ) (own : List ParamType) (back : List (Option ℕ)) → BackWell w vars own back → WidensBack w own own (map (λ var. false) back)
   static_widens vars [] [] h = tt
   static_widens vars [] (b ∷ back) h = absurd h
   static_widens vars (o ∷ own) [] h = absurd h
   static_widens vars (o ∷ own) (b ∷ back) h = (inr (refl, refl), static_widens vars own back h.1)
 
-  -- what is of abstract types is widened
+  -- what is of abstract types is boxed
   wide_widens : (params own : List ParamType) → Conform w params own → WidensBack w params own (wide_of w params)
   wide_widens [] [] c = tt
   wide_widens [] (o ∷ own) c = absurd c
@@ -108,7 +109,7 @@ module _ (w : Rows) where
   goes_itself (Some ty) = inr (refl, refl)
   goes_itself None = refl
 
-  -- ---- the arguments of what a bound value calls, by the caller's parameters at the open places
+  -- ---- the arguments of what a bound value calls, by the caller's parameters at the open arguments
 
   abbrev pub mixed : List ParamType → List Bool → List ParamType → List ParamType
   mixed (o ∷ own) (true ∷ free) (q ∷ params) = q ∷ mixed own free params
@@ -193,7 +194,7 @@ same_lists (x ∷ a) (y ∷ b) e = ap₂ (λ q r. q ∷ r) (same_Some x y (e 0))
 pub same_takes : {w : Rows} {class : ℕ} {t : Target} (a b : List ParamType) → Takes w class t a → Takes w class t b → a ≡ b
 same_takes a b x y = same_lists a b (λ n. sym (x.each n) ∙ y.each n)
 
--- ---- handing over
+-- ---- passing
 
 -- the target of a callee, and its class unless it is a feature
 abbrev pub IsFor : ResolvedCall → ℕ → Target → Type 0
@@ -217,7 +218,7 @@ module _ {w : Rows} {p : Program} (k : ProgramFacts w p) where
       subst (λ u. AreTheWide w own (wide_arguments p c.class u)) (sym (is ∙ e.1))
       (subst (λ u. AreTheWide w own (wide_arguments p (Some class) u)) e.1 (k.all_wide class t own takes))
 
-  -- values of types that the parameters' types hold are widened to be of these
+  -- values of subtypes of the parameters' types are boxed to be of these
   safe_widened_for : {base : List ObjectType} {x : Point} (at : Pos) (again : Bool) (c : ResolvedCall) (class : ℕ) (t : Target) (own : List ParamType) (given : List (Option Value)) → IsFor c class t → Takes w class t own → GivenBelow w base again own given → Safe w base x (List (Option Value)) (λ ks r. GivenWell w ks again own r) (boxed_for p at c given)
   safe_widened_for at again c class t own given is takes h =
       safe_then (safe_widened_some k at again own _ given (subst (λ u. AreWide w own (wide_once p u)) (sym is.0) (k.once_wide class t own takes)) h)
@@ -227,13 +228,13 @@ module _ {w : Rows} {p : Program} (k : ProgramFacts w p) where
   bound_fields ks ty b [] h = absurd h
   bound_fields ks ty b (receiver ∷ kept) h = (receiver, kept, refl, h)
 
-  -- a bound value that is known has an object that is well typed
+  -- a bound value in the heap typing has an object that is well typed
   pub bound_object : (ks : List ObjectType) (o : Object) (ty : ℕ) (b : Binding) → object_type_of o ≡ record { ty = ty; binding = Some b } → ObjectWell w ks o → (receiver : Value) × (kept : List Value) × (o.fields ≡ receiver ∷ kept) × IsBoundTo w ks ty b receiver kept
   bound_object ks o ty b e h = bound_fields ks ty b o.fields (subst (λ (n : ObjectType). FieldsWell w ks n.ty n.binding o.fields) e h.0)
 
-  -- ---- handing over, by what is called
+  -- ---- passing, by what is called
 
-  -- by the parameters and the result that the caller sees, what is handed over is well typed
+  -- by the parameters and the result that the caller sees, what is passed is well typed
   abbrev Hands : List ObjectType → Point → Pos → Bool → TypedCallee → ResolvedCall → ℕ → Target → List ParamType → Option ℕ → List (Option Value) → List (Option ℕ) → Type 0
   Hands base x at again called c class t own seen given back =
       Safe w base x PassedArgs (λ ks h. PassedArgsWell w ks x.local.frame.vars again class t own seen h) (pass_args p at called c given back)
@@ -263,7 +264,7 @@ module _ {w : Rows} {p : Program} (k : ProgramFacts w p) where
         gives = subst (GoesBack w (target_result w class t) shape.result) (sym wide.1) (goes_back w (target_result w class t) shape.result gives);
       })))
 
-  -- what a bound value binds, by the target and the shape that are known
+  -- what a bound value binds, by the target and the call type that are known
   record Binds (ks : List ObjectType) (ty : ℕ) (b : Binding) (class : ℕ) (t : Target) (own : List ParamType) (shape : CallType) (o : Object) : Type 0 where
     kept : List Value
     fields : drop 1 o.fields ≡ kept
@@ -321,7 +322,7 @@ module _ {w : Rows} {p : Program} (k : ProgramFacts w p) where
         gives = subst (GoesBack w (target_result w class t) shape.result) (sym wide.1) (goes_back w (target_result w class t) shape.result binds.gives);
       })))))))))
 
-  -- a call hands over what is taken
+  -- a call passes values of the parameters' types
   pub safe_handed : {base : List ObjectType} {x : Point} (at : Pos) (again : Bool) (of : TypedCallee) (bound : Option ℕ) (c : ResolvedCall) (class : ℕ) (t : Target) (own params : List ParamType) (seen : Option ℕ) (given : List (Option Value)) (back : List (Option ℕ)) → IsFor c class t → Takes w class t own → IsCallee w base of bound class t own c.through → IsSeen w base of class t own c.through params seen → GivenWell w base again params given → BackWell w x.local.frame.vars params back → Hands base x at again of c class t own seen given back
   safe_handed {base} {x} at again (called.Static u of) bound c class t own params seen given back is takes reached sees g b =
       subst (λ r. Hands base x at again (called.Static u of) c class t own r given back) (sym sees.1)

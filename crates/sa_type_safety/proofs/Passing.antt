@@ -1,4 +1,4 @@
--- What is handed over to a call and what comes back: values of the types of parameters, through signatures and bound types.
+-- What is passed to a call and what is copied out: values of the types of parameters, through signatures and bound types.
 use Rattle.std.proofs.Common.{◌≡◌, ℕ, ◌⊎◌, inl, inr, Bool, true, false, ◌==◌, List, [], ◌∷◌, Option, Some, None, slice_get, refl, sym, ap, subst, ◌∙◌, true≢false, eqb-true}
 use Rattle.std.specs.Prelude.{IsTrue}
 use Rattle.std.proofs.lemmas.Bool.{or_left, or_right, eq-eqb}
@@ -29,9 +29,9 @@ same_modes mode.Inout mode.Inout e = refl
 same_modes mode.Once mode.Once e = refl
 same_modes _ _ e = absurd (true≢false (sym e))
 
--- ---- by its mode, what is handed over for a parameter
+-- ---- by its mode, what is passed for a parameter
 
--- `out` arguments have no value. Those that are handed over once may lack at a resumption.
+-- `out` arguments have no value. `once` arguments may lack at a resumption.
 abbrev pub ArgThat : (Value → Type 0) → Bool → Mode → Option Value → Type 0
 ArgThat Q again mode.Out None = Unit {0}
 ArgThat Q again mode.Out (Some v) = ⊥
@@ -52,7 +52,7 @@ GivenThat Q again (p ∷ params) (v ∷ given) = ArgThat (Q p) again p.mode v ×
 abbrev pub GivenWell : Rows → List ObjectType → Bool → List ParamType → List (Option Value) → Type 0
 GivenWell w ks = GivenThat (λ p v. HasType w ks v p.ty)
 
--- a value of a type that another holds
+-- a value of a subtype
 abbrev pub IsBelow : Rows → List ObjectType → ℕ → Value → Type 0
 IsBelow w ks ty v = (own : ℕ) × HasType w ks v own × (is_supertype w ty own ≡ true)
 
@@ -90,7 +90,7 @@ module _ {w : Rows} {p : Program} (k : ProgramFacts w p) where
   above_loose upper lower e =
       elim (k.above_is upper lower e) as (λ x. is_immutable w upper ≡ false) [ inl a ↦ k.abstract_loose upper a | inr b ↦ k.bound_loose upper b.1 b.3 ]
 
-  -- a type that is immutable holds its own values alone
+  -- an immutable type is a supertype of itself alone
   pub held_alone : (upper lower : ℕ) → is_supertype w upper lower ≡ true → is_immutable w upper ≡ true → upper ≡ lower
   held_alone upper lower e i =
       elim (one_of (upper == lower) (is_strict_supertype w upper lower) e) as (λ x. upper ≡ lower)
@@ -107,7 +107,7 @@ module _ {w : Rows} {p : Program} (k : ProgramFacts w p) where
   pub holds_itself : (ty : ℕ) → is_supertype w ty ty ≡ true
   holds_itself ty = or_left (ty == ty) (is_strict_supertype w ty ty) (eq-eqb ty ty refl)
 
-  -- what holds a type and isn't immutable is above each immutable type below that
+  -- a supertype that isn't immutable is a proper supertype of each immutable subtype of the type
   above_both : (own ty low : ℕ) → is_supertype w ty own ≡ true → is_strict_supertype w own low ≡ true → is_immutable w low ≡ true → is_strict_supertype w ty low ≡ true
   above_both own ty low e b i =
       elim (one_of (ty == low) (is_strict_supertype w ty low) (k.above_above ty own low e (holds_above own low b))) as (λ x. is_strict_supertype w ty low ≡ true) [
@@ -115,13 +115,13 @@ module _ {w : Rows} {p : Program} (k : ProgramFacts w p) where
         | inr is ↦ is
       ]
 
-  -- a type below another that isn't abstract is a bound type, as that is
+  -- a proper subtype of a type that isn't abstract is a bound type, and so is that type
   bound_below : (upper lower : ℕ) → is_abstract w upper ≡ false → is_strict_supertype w upper lower ≡ true → is_immutable w lower ≡ false
   bound_below upper lower a e =
       elim (k.above_is upper lower e) as (λ x. is_immutable w lower ≡ false)
       [ inl b ↦ absurd (true≢false (sym b ∙ a)) | inr b ↦ k.bound_loose lower b.0 b.2 ]
 
-  -- a value that isn't one of an immutable class is of each type above
+  -- a value that isn't one of an immutable class is of each supertype
   pub goes_up : (ks : List ObjectType) (v : Value) (own ty : ℕ) → is_immutable w own ≡ false → is_supertype w ty own ≡ true → HasType w ks v own → HasType w ks v ty
   goes_up ks Void own ty i e h = holder_loose ty own e i
   goes_up ks (Int z) own ty i e h = absurd (true≢false (sym (subst (λ n. is_immutable w n ≡ true) (sym h) k.int_immutable) ∙ i))
@@ -133,25 +133,25 @@ module _ {w : Rows} {p : Program} (k : ProgramFacts w p) where
   goes_up ks (Bound number) own ty i e h = (h.0, h.1, h.2, h.3, k.above_above ty own h.0 e h.4)
   goes_up ks (Boxed v) own ty i e h = (h.0, h.1, h.2, above_both own ty h.0 e h.3 h.2)
 
-  -- a value stays of its type where this isn't abstract
+  -- a value of a type is of each supertype that isn't abstract
   pub goes_on : (ks : List ObjectType) (v : Value) (own ty : ℕ) → is_abstract w ty ≡ false → is_supertype w ty own ≡ true → HasType w ks v own → HasType w ks v ty
   goes_on ks v own ty a e h =
       elim (one_of (ty == own) (is_strict_supertype w ty own) e) as (λ x. HasType w ks v ty)
       [ inl same ↦ subst (HasType w ks v) (sym (eqb-true ty own same)) h | inr b ↦ goes_up ks v own ty (bound_below ty own a b) e h ]
 
-  -- ---- widening
+  -- ---- boxing
 
   above_low : (own ty : ℕ) → is_supertype w ty own ≡ true → is_immutable w own ≡ true → is_abstract w ty ≡ true → is_strict_supertype w ty own ≡ true
   above_low own ty e i a =
       elim (one_of (ty == own) (is_strict_supertype w ty own) e) as (λ x. is_strict_supertype w ty own ≡ true)
       [ inl same ↦ absurd (true≢false (sym (subst (λ n. is_immutable w n ≡ true) (sym (eqb-true ty own same)) i) ∙ k.abstract_loose ty a)) | inr is ↦ is ]
 
-  -- a value of an immutable class is widened
+  -- a value of an immutable class is boxed
   safe_wide : {base : List ObjectType} {x : Point} (at : Pos) (attributes : ℕ) (v : Value) (own ty : ℕ) → is_supertype w ty own ≡ true → HasType w base v own → is_immutable w own ≡ true → is_abstract w ty ≡ true → Safe w base x Value (λ ks r. HasType w ks r ty) (box_value at attributes v)
   safe_wide at attributes v own ty e h i a =
       safe_before (safe_charge k.well at _) (λ ks f. safe_pure (Boxed v) (λ js g. (own, type_later w (extends_trans f g) v own h, i, above_low own ty e i a)))
 
-  -- a value of a type below an abstract one is widened to be one of that
+  -- a value of a subtype of an abstract type is boxed to be one of that
   pub safe_widened : {base : List ObjectType} {x : Point} (at : Pos) (v : Value) (own ty : ℕ) → is_abstract w ty ≡ true → is_supertype w ty own ≡ true → HasType w base v own → Safe w base x Value (λ ks r. HasType w ks r ty) (boxed p at v)
   safe_widened at (Int z) own ty a e h = safe_wide at 1 (Int z) own ty e h (subst (λ n. is_immutable w n ≡ true) (sym h) k.int_immutable) a
   safe_widened at (Truth b) own ty a e h = safe_wide at 1 (Truth b) own ty e h (subst (λ n. is_immutable w n ≡ true) (sym h) k.bool_immutable) a
@@ -167,7 +167,7 @@ module _ {w : Rows} {p : Program} (k : ProgramFacts w p) where
   safe_widened at (Boxed v) own ty a e h =
       safe_pure (Boxed v) (λ ks f. type_later w f (Boxed v) ty (h.0, h.1, h.2, above_both own ty h.0 e h.3 h.2))
 
-  -- a value goes to a type above, widened where this is abstract
+  -- a value is assigned to a supertype, boxed where this is abstract
   pub safe_widened_if : {base : List ObjectType} {x : Point} (at : Pos) (wide : Bool) (v : Value) (own ty : ℕ) → wide ≡ is_abstract w ty → is_supertype w ty own ≡ true → HasType w base v own → Safe w base x Value (λ ks r. HasType w ks r ty) (boxed_if p at wide v)
   safe_widened_if at wide v own ty s e h =
       safe_if wide (λ b. safe_widened at v own ty (sym s ∙ b) e h) (λ b. safe_pure v (λ ks f. type_later w f v ty (goes_on _ v own ty (sym s ∙ b) e h)))
@@ -180,7 +180,7 @@ module _ {w : Rows} {p : Program} (k : ProgramFacts w p) where
   pub given_later : {old new : List ObjectType} → HeapExtends old new → (again : Bool) (params : List ParamType) (given : List (Option Value)) → GivenWell w old again params given → GivenWell w new again params given
   given_later e again params given h = given_that _ _ again params given (λ q v b. type_later w e v q.ty b) h
 
-  -- some are widened
+  -- some are boxed
   pub safe_widened_some : {base : List ObjectType} {x : Point} (at : Pos) (again : Bool) (params : List ParamType) (flags : List Bool) (given : List (Option Value)) → AreWide w params flags → GivenBelow w base again params given → Safe w base x (List (Option Value)) (λ ks r. GivenBelow w ks again params r) (boxed_where p at flags given)
   safe_widened_some at again [] [] given f h = safe_pure given (λ ks e. below_later e again [] given h)
   safe_widened_some at again [] (b ∷ flags) [] f h = safe_pure [] (λ ks e. tt)
@@ -200,7 +200,7 @@ module _ {w : Rows} {p : Program} (k : ProgramFacts w p) where
       (λ js us g is. safe_pure (Some u ∷ us) (λ is' i.
       ((some_arg (IsBelow w base q.ty) (IsBelow w is' q.ty) again q.mode v u h.0).1 (t.0, type_later w (extends_trans g i) u t.0 t.1, t.2), below_later i again params us is))))
 
-  -- a list of values of types that the parameters' types hold, where none of these is abstract
+  -- a list of values of subtypes of the parameters' types, where none of these is abstract
   below_plain : (base : List ObjectType) (again : Bool) (params : List ParamType) (given : List (Option Value)) → AreTheWide w params [] → GivenBelow w base again params given → GivenWell w base again params given
   below_plain base again [] [] f h = tt
   below_plain base again [] (v ∷ given) f h = h
@@ -208,7 +208,7 @@ module _ {w : Rows} {p : Program} (k : ProgramFacts w p) where
   below_plain base again (q ∷ params) (v ∷ given) f h =
       (arg_that (IsBelow w base q.ty) (λ u. HasType w base u q.ty) again q.mode v (λ u b. goes_on base u b.0 q.ty f.0 b.2 b.1) h.0, below_plain base again params given f.1 h.1)
 
-  -- all of them are widened that have to be, and then they are of the parameters' types
+  -- all of them are boxed that have to be, and then they are of the parameters' types
   pub safe_widened_all : {base : List ObjectType} {x : Point} (at : Pos) (again : Bool) (params : List ParamType) (flags : List Bool) (given : List (Option Value)) → AreTheWide w params flags → GivenBelow w base again params given → Safe w base x (List (Option Value)) (λ ks r. GivenWell w ks again params r) (boxed_where p at flags given)
   safe_widened_all at again [] [] [] f h = safe_pure [] (λ ks e. tt)
   safe_widened_all at again [] [] (v ∷ given) f h = absurd h
@@ -235,7 +235,7 @@ module _ {w : Rows} {p : Program} (k : ProgramFacts w p) where
   arg_conforms ks again mode.Out ty own (Some v) e h = h
   arg_conforms ks again mode.Inout ty own v e h = arg_that _ _ again mode.Inout v (λ u b. (ty, b, subst (λ n. is_supertype w n ty ≡ true) (sym (eqb-true own ty e)) (holds_itself ty))) h
 
-  -- what is given by a signature's parameters is of types that those of the implementation hold
+  -- what is given by a signature's parameters is of subtypes of those of the implementation
   pub given_conforms : (ks : List ObjectType) (again : Bool) (params own : List ParamType) (given : List (Option Value)) → Conform w params own → GivenWell w ks again params given → GivenBelow w ks again own given
   given_conforms ks again [] [] [] c h = tt
   given_conforms ks again [] [] (v ∷ given) c h = h
@@ -247,15 +247,15 @@ module _ {w : Rows} {p : Program} (k : ProgramFacts w p) where
     given_conforms ks again params own given c.1 h.1,
   )
 
--- ---- what comes back
+-- ---- what is copied out
 
--- the callee's variables, of which all but the values of those that are given are there
+-- the callee's variables: each has a value, but for those of parameters that only go in
 abbrev pub Came : Rows → List ObjectType → List ParamType → List Value → Type 0
 Came w ks [] values = Unit {0}
 Came w ks (o ∷ own) [] = IsTrue (is_value_mode o.mode) × Came w ks own []
 Came w ks (o ∷ own) (v ∷ values) = HasType w ks v o.ty × Came w ks own values
 
--- where it goes: a variable of a type above, for what isn't given alone
+-- where it is copied: a variable of a supertype, for what doesn't only go in
 abbrev pub BackTo : Rows → List ℕ → ParamType → Option ℕ → Type 0
 BackTo w vars q None = IsTrue (is_value_mode q.mode)
 BackTo w vars q (Some var) = (is_value_mode q.mode ≡ false) × ((ty : ℕ) × (slice_get vars var ≡ Some ty) × (is_supertype w ty q.ty ≡ true))
@@ -266,13 +266,13 @@ BackWell w vars [] (b ∷ back) = ⊥
 BackWell w vars (q ∷ params) [] = ⊥
 BackWell w vars (q ∷ params) (b ∷ back) = BackTo w vars q b × BackWell w vars params back
 
--- what a signature or a bound type widens: what has an abstract type there, or nothing of what has the same type
+-- what a signature or a bound type boxes: what has an abstract type there, or nothing of what has the same type
 abbrev pub WidensBack : Rows → List ParamType → List ParamType → List Bool → Type 0
 WidensBack w [] [] [] = Unit {0}
 WidensBack w (q ∷ params) (o ∷ own) (b ∷ flags) = ((b ≡ is_abstract w q.ty) ⊎ ((b ≡ false) × (q.ty ≡ o.ty))) × WidensBack w params own flags
 WidensBack w _ _ _ = ⊥
 
--- of what goes to variables the values are of the types of the parameters
+-- of what is copied to variables the values are of the types of the parameters
 abbrev pub Arrived : Rows → List ObjectType → List ParamType → List (Option ℕ) → List Value → Type 0
 Arrived w ks [] back values = Unit {0}
 Arrived w ks (q ∷ params) [] values = Unit {0}
@@ -295,7 +295,7 @@ module _ {w : Rows} {p : Program} (k : ProgramFacts w p) where
   arrived_later e (q ∷ params) (Some var ∷ back) [] h = h
   arrived_later e (q ∷ params) (Some var ∷ back) (v ∷ values) h = (type_later w e v q.ty h.0, arrived_later e params back values h.1)
 
-  -- what comes back conforms: its type is held by that of the signature's parameter
+  -- what is copied out conforms: the type of the signature's parameter is a supertype of its type
   back_holds : (m : Mode) (ty own : ℕ) → is_value_mode m ≡ false → type_conforms w m ty own ≡ true → is_supertype w ty own ≡ true
   back_holds mode.In ty own g e = absurd (true≢false g)
   back_holds mode.Once ty own g e = absurd (true≢false g)
@@ -307,12 +307,12 @@ module _ {w : Rows} {p : Program} (k : ProgramFacts w p) where
   safe_one_back at q o b v g c (inr e) h =
       safe_if b (λ t. absurd (true≢false (sym t ∙ e.0))) (λ t. safe_pure v (λ ks f. type_later w f v q.ty (subst (HasType w _ v) (sym e.1) h)))
 
-  -- what isn't given comes back, by the signature as by the implementation
+  -- what isn't given is copied out, by the signature as by the implementation
   not_both : (q o : ParamType) → param_conforms w q (Some o) ≡ true → is_value_mode o.mode ≡ true → is_value_mode q.mode ≡ false → ⊥
   not_both q o c g n =
       true≢false (sym (subst (λ m. is_value_mode m ≡ true) (same_modes o.mode q.mode (first_of (same_mode o.mode q.mode) (type_conforms w q.mode q.ty o.ty) c)) g) ∙ n)
 
-  -- where the callee has no variables, nothing comes back
+  -- where the callee has no variables, nothing is copied out
   nothing_arrived : (ks : List ObjectType) (vars : List ℕ) (params own : List ParamType) (back : List (Option ℕ)) → Conform w params own → BackWell w vars params back → Came w ks own [] → Arrived w ks params back []
   nothing_arrived ks vars [] own back c t h = tt
   nothing_arrived ks vars (q ∷ params) [] back c t h = absurd c

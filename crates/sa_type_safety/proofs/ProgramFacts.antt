@@ -1,5 +1,4 @@
--- What the rows of a well-typed tree and the program that it means have to do with each other, and what goes by them: all that the
--- lemmas on runs ask of a tree.
+-- The facts that relate the rows of a well-typed AST and the program of its semantics: all that the lemmas on runs ask of an AST.
 use Rattle.std.specs.Prelude.{◌≡◌, ℕ, ◌⊎◌, Bool, true, false, ◌==◌, List, [], ◌∷◌, map, slice_get, find, Option, Some, None, is_some}
 use Rattle.std.specs.Option.{option_map_or}
 use Rattle.sa_typed.specs.declared.feature.TypedFeature.{TypedFeature}
@@ -32,7 +31,7 @@ wide_of w = map (λ p. is_abstract w p.ty)
 abbrev pub wide_result : Rows → Option ℕ → Bool
 wide_result w ty = option_map_or (is_abstract w) ty false
 
--- ---- which arguments are widened
+-- ---- which arguments are boxed
 
 -- these have abstract types
 abbrev pub AreWide : Rows → List ParamType → List Bool → Type 0
@@ -59,9 +58,9 @@ pub record ProgramFacts (w : Rows) (p : Program) : Type 0 where
   pub attributes_are : (ty : ℕ) → program.of_type p (λ t. t.attrs) [] ty ≡ attributes w ty
   pub element_is : (ty : ℕ) → program.of_type p (λ t. t.elem) None ty ≡ element_of w ty
   pub holds_is : (ty other : ℕ) → program.is_supertype p ty other ≡ is_supertype w ty other
-  -- what is above what is above a type is above it
+  -- a supertype of a supertype of a type is one of its supertypes
   pub above_above : (a b c : ℕ) → is_supertype w a b ≡ true → is_supertype w b c ≡ true → is_supertype w a c ≡ true
-  -- what is above a type is abstract, or a bound type above another for whose values those of the other may stand
+  -- a proper supertype of a type is abstract, or both are bound types and values of the subtype may be used as values of the supertype
   pub above_is : (upper lower : ℕ) → is_strict_supertype w upper lower ≡ true
       → (is_abstract w upper ≡ true)
       ⊎ ((a : CallType) × (b : CallType) × (call_type_at w.bound lower ≡ Some a) × (call_type_at w.bound upper ≡ Some b) × (call_types_alike w a b ≡ true))
@@ -85,11 +84,11 @@ pub record ProgramFacts (w : Rows) (p : Program) : Type 0 where
   pub signature_abstract : (n : ℕ) (s : TypedSignature) → slice_get w.signatures n ≡ Some s → is_abstract w s.ty ≡ true
   -- the void of a type is of the type
   pub void_is : (ks : List ObjectType) (ty : ℕ) → is_type w ty ≡ true → HasType w ks (void_of p ty) ty
-  -- a signature has an implementation of each concrete type below
+  -- a signature has an implementation of each concrete subtype
   pub implemented : (k : ℕ) (s : TypedSignature) (own : ℕ) → slice_get w.signatures k ≡ Some s → is_strict_supertype w s.ty own ≡ true → is_abstract w own ≡ false
       → (i : TypedImplementation) × (shape : CallType) × (find (λ i. i.ty == own) s.impls ≡ Some i) × (i.ty ≡ own) × (call_type_at w.shapes k ≡ Some shape)
       × (is_implementation w shape s.ty i ≡ true)
-  -- what calls of signatures and of bound values widen when they come back
+  -- what calls of signatures and of bound values box when they return
   pub signature_wide : (k : ℕ) (s : TypedSignature) (shape : CallType) → slice_get w.signatures k ≡ Some s → call_type_at w.shapes k ≡ Some shape
       → ((signature_of s).wide_args ≡ wide_of w shape.params) × ((signature_of s).wide ≡ wide_result w shape.result)
   pub bound_wide : (ty : ℕ) (t : TypeDef) (shape : CallType) → slice_get w.types ty ≡ Some t → call_type_at w.bound ty ≡ Some shape

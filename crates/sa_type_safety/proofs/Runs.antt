@@ -1,4 +1,4 @@
--- Whole runs of a well-typed tree never get stuck.
+-- Whole runs of a well-typed AST never get stuck.
 use Rattle.std.proofs.Common.{◌≡◌, ◌≢◌, ℕ, zero, suc, ◌+◌, Bool, true, false, not, ◌==◌, List, [], ◌∷◌, map, length, Option, Some, None, slice_get, option_map, option_and_then, is_some, inr, refl, sym, ap, subst, ◌∙◌, true≢false, eqb-true, arith}
 use Rattle.std.specs.List.{list_all}
 use Rattle.std.specs.Option.{option_map_or}
@@ -58,7 +58,7 @@ module _ {w : Rows} {p : Program} (k : ProgramFacts w p) where
   unended r _ h (halt c s e t) = halt c s e t
   unended r _ h (exhaust s) = exhaust s
 
-  -- to each level what is left of a body is run safely
+  -- to each level a continuation is run safely
   pub run_safely : (level : ℕ) → IsSafe w (run_to p level)
   run_safely zero n f is at r h base = safe (λ s e it. exhaust s)
   run_safely (suc level) n f is at r h base =
@@ -66,7 +66,7 @@ module _ {w : Rows} {p : Program} (k : ProgramFacts w p) where
 
 -- ---- before a feature runs
 
--- where the initialiser of a shared of a class runs, and `main` is called
+-- the point where the initialiser of a shared of a class runs, and `main` is called
 abbrev shared_spot : Rows → ℕ → Point
 shared_spot w class = record { local = shared_local w class; place = outside }
 

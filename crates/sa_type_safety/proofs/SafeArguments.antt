@@ -40,7 +40,7 @@ shape_there : (o : Option CallType) (n : ℕ) → option_map (λ (s : CallType).
 shape_there None n e = absurd (none-some n e)
 shape_there (Some s) n e = (s, refl)
 
--- ---- where a value may stand
+-- ---- what is assignable to a type
 
 module _ {w : Rows} {p : Program} (k : ProgramFacts w p) where
   pub given_goes : (ks : List ObjectType) (g : ExprType) (ty : ℕ) (v : Value) → is_assignable w g ty ≡ true → GivenIs w ks g v → HasType w ks v ty
@@ -52,7 +52,7 @@ module _ {w : Rows} {p : Program} (k : ProgramFacts w p) where
       ]
   given_goes ks (BoxedOf own) ty v e h = subst (λ u. HasType w ks u ty) (sym h.1) (own, h.2, h.3, e)
 
-  -- ---- the parameters of what is reached, as a list
+  -- ---- the parameters of what a call resolves to, as a list
 
   pub params_of : (r : ResolvedCallee) (n : ℕ) → arity w r ≡ Some n → (params : List ParamType) × ParamsAre w r params
   params_of (reach.Target t class) n e =
@@ -74,7 +74,7 @@ module _ (f : Env) (at : TypingContext) where
   ArgsAre (q ∷ params) no_args = ⊥
   ArgsAre (q ∷ params) (arg a more) = (arg_fits f at (Some q) a ≡ true) × ArgsAre params more
 
-  -- the arguments have as many parameters as they are
+  -- there are as many parameters as arguments
   pub args_many : (r : ResolvedCallee) (place : ℕ) (arguments : Args) → args_fit f at r place arguments ≡ true → (n : ℕ) × (arity f.rows r ≡ Some n)
   args_many r place no_args e = (place, just_is place (arity f.rows r) e)
   args_many r place (arg a more) e = args_many r (place + 1) more (second_of (arg_fits f at (parameter f.rows r place) a) _ e)
@@ -160,7 +160,7 @@ module _ (w : Rows) (ks : List ObjectType) where
   rest_one mode.Inout ty None h = h
   rest_one mode.Inout ty (Some v) h = h
 
-  -- at a resumption those that are handed over once lack
+  -- at a resumption the `once` ones lack
   pub rest_given : (params : List ParamType) (given : List (Option Value)) → PartWell w ks not_once params given → GivenWell w ks true params given
   rest_given [] [] h = tt
   rest_given [] (v ∷ given) h = h

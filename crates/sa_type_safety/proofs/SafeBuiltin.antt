@@ -75,7 +75,7 @@ module _ (w : Rows) where
       (ty, refl, first_of (has_array w ty) _ e, found.1 ∙ ap (λ n. Some n) (eqb-true found.0 char_type found.2))
 
 module _ {w : Rows} {p : Program} (k : ProgramFacts w p) where
-  -- ---- what values of the given types are
+  -- ---- what values of the types that each program has are
 
   int_seen : (ks : List ObjectType) (v : Value) → HasType w ks v int_type → (z : ℤ) × (as_int v ≡ Some z)
   int_seen ks v h = let f = int_form k ks v h in (f.0, ap as_int f.1)
@@ -86,7 +86,7 @@ module _ {w : Rows} {p : Program} (k : ProgramFacts w p) where
   char_seen : (ks : List ObjectType) (v : Value) → HasType w ks v char_type → (byte : ℕ) × (as_char v ≡ Some byte)
   char_seen ks v h = let f = char_form k ks v h in (f.0, ap as_char f.1)
 
-  -- ---- parts of the features
+  -- ---- fragments of the features
 
   module _ (class : Option ℕ) (at : Pos) (self : Value) (values : List Value) where
     safe_whole : {base : List ObjectType} {x : Point} (z : ℤ) → Safe w base x Value (λ ks v. HasType w ks v int_type) (whole p class at self values z)

@@ -37,14 +37,14 @@ use Rattle.sa_type_safety.proofs.SafeRoutines.{IsSafe}
 use Rattle.sa_type_safety.proofs.SafeTargets.{safe_reached}
 use Rattle.sa_type_safety.proofs.SafeCalls.{GivenIs, bound_of, is_if, some_signature, bound_reached, bound_shaped, safe_callee}
 
--- ---- the parameters of what is reached
+-- ---- the parameters of what a call resolves to
 
 pub record ParamsAre (w : Rows) (r : ResolvedCallee) (params : List ParamType) : Type 0 where
   pub arity : arity w r ≡ Some (length params)
   pub each : (place : ℕ) → parameter w r place ≡ slice_get params place
 
 module _ {w : Rows} {p : Program} (k : ProgramFacts w p) where
-  -- ---- between a bound type and one that it holds
+  -- ---- between a bound type and a subtype of it
 
   value_alike : (ks : List ObjectType) (v : Value) (upper lower : ℕ) → is_alike w lower upper ≡ true → HasType w ks v lower → HasType w ks v upper
   value_alike ks v upper lower e h =
@@ -115,7 +115,7 @@ module _ {w : Rows} {p : Program} (k : ProgramFacts w p) where
 
   -- ---- what the caller sees and what the callee's side takes
 
-  -- What the caller sees of what it reaches, and what is seen of the target itself: the same, but for bound types.
+  -- What the caller sees of what its call resolves to, and what is seen of the target itself: the same, but for bound types.
   pub record Sees (ks : List ObjectType) (vars : List ℕ) (again : Bool) (of : TypedCallee) (bound : Option ℕ) (c : ResolvedCall) (class : ℕ) (t : Target) (own : List ParamType) (values : List (Option Value)) (variables : List (Option ℕ)) (seen : Option ℕ) : Type 0 where
     pub params : List ParamType
     pub result : Option ℕ
@@ -134,7 +134,7 @@ module _ {w : Rows} {p : Program} (k : ProgramFacts w p) where
   pub shape_result : (shape : CallType) (o : Option CallType) → o ≡ Some shape → option_and_then (λ (s : CallType). s.result) o ≡ shape.result
   shape_result shape o e = ap (option_and_then (λ (s : CallType). s.result)) e
 
-  -- the shape of a bound type that another holds
+  -- the call type of a subtype of a bound type
   lower_shaped : (upper lower : ℕ) (a : CallType) → call_type_at w.bound upper ≡ Some a → is_supertype w upper lower ≡ true → (b : CallType) × (call_type_at w.bound lower ≡ Some b) × ((b ≡ a) ⊎ (call_types_alike w b a ≡ true))
   lower_shaped upper lower a e h =
       elim (one_of (upper == lower) (is_strict_supertype w upper lower) h) as (λ x. (b : CallType) × (call_type_at w.bound lower ≡ Some b) × ((b ≡ a) ⊎ (call_types_alike w b a ≡ true))) [
@@ -202,7 +202,7 @@ module _ {w : Rows} {p : Program} (k : ProgramFacts w p) where
       }
 
 module _ {w : Rows} {p : Program} (k : ProgramFacts w p) (go : Continuation → Eval Completion) (safely : IsSafe w go) where
-  -- a call of a routine gives a value of the type of what it reaches
+  -- a call of a routine gives a value of the result type of what it resolves to
   pub safe_call : {base : List ObjectType} {x : Point} (at : Pos) (of : TypedCallee) (g : ExprType) (r : ResolvedCallee) (params : List ParamType) (v : Value) (given : List (Option Value)) (back : List (Option ℕ)) → IsLocal w x.local → reached w of g ≡ Some r → is_iter w r ≡ false → ParamsAre w r params → GivenIs w base g v → GivenWell w base false params given → BackWell w x.local.frame.vars params back → Safe w base x Value (λ ks u. HasTypeIf w ks (result_type w r) u) (call p go at of v given back)
   safe_call {x = x} at of g r params v given back l e routine a is h b =
       safe_then (safe_callee k at of g r v e is (λ none. none-some (length params) (sym none ∙ a.arity)))

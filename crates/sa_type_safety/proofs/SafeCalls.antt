@@ -1,4 +1,4 @@
--- Calls are safe: what they call, what they hand over, what they do, and what they bring back.
+-- Calls are safe: what they call, what they pass, what they do, and what they copy out.
 use Rattle.std.proofs.Common.{◌≡◌, ◌≢◌, ℕ, suc, ◌+◌, ◌⊎◌, inl, inr, Bool, true, false, ◌&&◌, ◌==◌, if◌then◌else◌, List, [], ◌∷◌, length, find, Option, Some, None, slice_get, option_map, option_and_then, is_some, refl, sym, ap, subst, ◌∙◌, true≢false, eqb-true, arith}
 use Rattle.std.specs.Option.{option_map_or}
 use Rattle.std.proofs.lemmas.Option.{same_Some, none-some}
@@ -39,13 +39,13 @@ use Rattle.sa_type_safety.proofs.Dynamic.{dynamic_of}
 
 -- ---- what expressions give
 
--- what an expression gives is a value of a type, or a widened one of an immutable class
+-- what an expression gives is a value of a type, or a boxed one of an immutable class
 abbrev pub GivenIs : Rows → List ObjectType → ExprType → Value → Type 0
 GivenIs w ks NoValue v = Unit {0}
 GivenIs w ks (Of ty) v = HasType w ks v ty
 GivenIs w ks (BoxedOf own) v = (u : Value) × (v ≡ Boxed u) × HasType w ks u own × (is_immutable w own ≡ true)
 
--- what a call reaches
+-- what a call resolves to
 pub record CalleeWell (w : Rows) (ks : List ObjectType) (of : TypedCallee) (bound : Option ℕ) (iter : Bool) (c : ResolvedCall) : Type 0 where
   pub class : ℕ
   pub is : c.class ≡ Some class
@@ -122,7 +122,7 @@ module _ {w : Rows} {p : Program} (k : ProgramFacts w p) where
   is_there : {A : Type 0} (o : Option A) (a : A) → o ≡ Some a → is_some o ≡ true
   is_there o a e = ap is_some e
 
-  -- what a concrete class below an abstract type calls for a signature of it
+  -- the implementation of a signature of an abstract type by a concrete subtype
   implements : (n : ℕ) (s : TypedSignature) (own : ℕ) → slice_get w.signatures n ≡ Some s → is_strict_supertype w s.ty own ≡ true → is_abstract w own ≡ false
       → (i : TypedImplementation) × (shape : CallType) × (params : List ParamType) × (find (λ (j : TypedImplementation). j.ty == own) s.impls ≡ Some i) × (call_type_at w.shapes n ≡ Some shape)
       × Takes w own i.target params × Conform w shape.params params × (result_conforms w shape.result (target_result w own i.target) ≡ true)
@@ -178,7 +178,7 @@ module _ {w : Rows} {p : Program} (k : ProgramFacts w p) where
 
   -- ---- bound values
 
-  -- a bound type holds no other than bound types
+  -- all subtypes of a bound type are bound types
   not_below : (upper lower : ℕ) (shape : CallType) → call_type_at w.bound upper ≡ Some shape → call_type_at w.bound lower ≡ None → is_supertype w upper lower ≡ true → ⊥
   not_below upper lower shape e none h =
       elim (one_of (upper == lower) (is_strict_supertype w upper lower) h) as (λ x. ⊥) [
@@ -187,7 +187,7 @@ module _ {w : Rows} {p : Program} (k : ProgramFacts w p) where
             [ inl c ↦ none-some shape (sym (k.abstract_unbound upper c) ∙ e) | inr c ↦ none-some c.0 (sym none ∙ c.2) ]
       ]
 
-  -- the shapes of a bound type and of one that it holds are alike, or the same
+  -- the call types of a bound type and of a subtype of it are alike, or the same
   pub held_alike : (upper lower : ℕ) (a b : CallType) → call_type_at w.bound upper ≡ Some a → call_type_at w.bound lower ≡ Some b → is_supertype w upper lower ≡ true → (b ≡ a) ⊎ (call_types_alike w b a ≡ true)
   held_alike upper lower a b e f h =
       elim (one_of (upper == lower) (is_strict_supertype w upper lower) h) as (λ x. (b ≡ a) ⊎ (call_types_alike w b a ≡ true)) [
@@ -245,7 +245,7 @@ module _ {w : Rows} {p : Program} (k : ProgramFacts w p) where
   some_of None h = absurd (h refl)
   some_of (Some a) h = (a, refl)
 
-  -- a signature that has parameters has a shape
+  -- a signature that has parameters has a call type
   signature_shaped : (n : ℕ) → arity w (reach.Signature n) ≢ None → (s : CallType) × (call_type_at w.shapes n ≡ Some s)
   signature_shaped n h = some_of (call_type_at w.shapes n) (λ e. h (ap (option_map (λ (s : CallType). length s.params)) e))
 
@@ -257,7 +257,7 @@ module _ {w : Rows} {p : Program} (k : ProgramFacts w p) where
   bound_reached (BoxedOf own) r e = absurd (none-some r e)
   bound_reached (Of ty) r e = (ty, refl, (is_if (is_some (call_type_at w.bound ty)) (reach.Bound ty) r e).1)
 
-  -- what a call reaches on a receiver that is well typed
+  -- what a call resolves to on a receiver that is well typed
   pub safe_callee : {base : List ObjectType} {x : Point} (at : Pos) (of : TypedCallee) (g : ExprType) (r : ResolvedCallee) (v : Value) → reached w of g ≡ Some r → GivenIs w base g v → arity w r ≢ None → Safe w base x ResolvedCall (λ ks c. CalleeWell w ks of (bound_of r) (is_iter w r) c) (callee p at of v)
   safe_callee {base} {x} at (called.Static t class) g r v e h some =
       let tests = is_if (is_plain class g && is_some (target_arity w class t)) (reach.Target t class) r e in

@@ -141,7 +141,7 @@ module _ {w : Rows} {p : Program} (k : ProgramFacts w p) where
       (subst (λ o. Each (HasTypeIf w js o) (replicate (index_of count) (option_map_or (void_of p) t.0.elem Void))) (sym (element_is ty t.0 t.1)) (void_elements js t.0.elem (index_of count) (layout_of ty t.0 t.1).1))))
       (λ js n f is. safe_made ty (plain ty [] []) n h is))))
 
--- ---- the types that parts of expressions have
+-- ---- the types that subexpressions have
 
 module _ (w : Rows) where
   all_go_each : (f : Env) (at : TypingContext) (ty : ℕ) (e : Expr) (more : Exprs) → are_assignable f at ty (expr e more) ≡ true → (is_assignable_type f.rows ty (type_of_expr f at e) ≡ true) × (are_assignable f at ty more ≡ true)
@@ -208,7 +208,7 @@ module _ (w : Rows) where
   parts_later e test (q ∷ params) [] h = h
   parts_later e test (q ∷ params) (v ∷ given) h = (part_later e (test q.mode) q v h.0, parts_later e test params given h.1)
 
-  -- a variable that is read for what it is handed over
+  -- a variable that is read to be passed
   read_part : (ks : List ObjectType) (q : ParamType) (m : Mode) (ty : ℕ) → is_assignable_back w q.ty m ty ≡ true → (is_read m ≡ true → ty ≡ q.ty) × (is_read m ≡ false → ArgThat (λ u. HasType w ks u q.ty) false m None)
   read_part ks q mode.In ty e = absurd (true≢false (sym e))
   read_part ks q mode.Once ty e = absurd (true≢false (sym e))
@@ -223,14 +223,14 @@ module _ (w : Rows) where
 
 -- ---- the arguments of binds
 
--- An argument of a bind is kept, or is left open as the next parameter of the bound type.
+-- An argument of a bind is stored, or is left open as the next parameter of the bound type.
 abbrev pub KeptAre : Env → TypingContext → List ParamType → List ParamType → Args → Type 0
 KeptAre f at [] [] no_args = Unit {0}
 KeptAre f at (q ∷ own) next (arg (tree.Value m e) more) = (value_fits f.rows (Some q) m (type_of_expr f at e) ≡ true) × KeptAre f at own next more
 KeptAre f at (q ∷ own) (n ∷ next) (arg Open more) = (is_open_alike (Some q) (Some n) ≡ true) × KeptAre f at own next more
 KeptAre f at _ _ list = ⊥
 
--- the values that are kept, and none at the open places
+-- the values that are stored, and none at the open arguments
 abbrev pub KeptWell : Rows → List ObjectType → List ParamType → List ParamType → List (Option Value) → Type 0
 KeptWell w ks [] [] [] = Unit {0}
 KeptWell w ks (q ∷ own) next (Some v ∷ given) = (is_value_mode q.mode ≡ true) × HasType w ks v q.ty × KeptWell w ks own next given
@@ -253,7 +253,7 @@ module _ (w : Rows) where
 
 -- ---- bound values
 
--- what is kept is of the target's types, and what is left open conforms
+-- what is stored is of the target's types, and what is left open conforms
 abbrev pub KeptFor : Rows → List ObjectType → List ParamType → List ParamType → List (Option Value) → Type 0
 KeptFor w ks [] [] [] = Unit {0}
 KeptFor w ks (o ∷ own) next (Some v ∷ given) = (is_value_mode o.mode ≡ true) × HasType w ks v o.ty × KeptFor w ks own next given
@@ -294,7 +294,7 @@ module _ {w : Rows} {p : Program} (k : ProgramFacts w p) where
   given_holds mode.Out ty own g e = absurd (true≢false (sym g))
   given_holds mode.Inout ty own g e = absurd (true≢false (sym g))
 
-  -- where nothing is widened
+  -- where nothing is boxed
   kept_plain : (ks : List ObjectType) (sees own next : List ParamType) (given : List (Option Value)) → Conform w sees own → AreTheWide w own [] → KeptWell w ks sees next given → KeptFor w ks own next given
   kept_plain ks [] [] [] [] c f h = tt
   kept_plain ks (q ∷ sees) (o ∷ own) next (Some v ∷ given) c f h = (
@@ -314,7 +314,7 @@ module _ {w : Rows} {p : Program} (k : ProgramFacts w p) where
   subst_pure at [] = safe_pure [] (λ ks e. tt)
   subst_pure at (b ∷ flags) = safe_pure [] (λ ks e. tt)
 
-  -- what a signature's bind keeps is widened as its implementation wants it
+  -- what a signature's bind stores is boxed as its implementation wants it
   safe_widened_kept : {base : List ObjectType} {y : Point} (at : Pos) (flags : List Bool) (sees own next : List ParamType) (given : List (Option Value)) → Conform w sees own → AreTheWide w own flags → KeptWell w base sees next given → Safe w base y (List (Option Value)) (λ ks vs. KeptFor w ks own next vs) (boxed_where p at flags given)
   safe_widened_kept at flags [] [] [] [] c f h = subst_pure at flags
   safe_widened_kept at [] (q ∷ sees) (o ∷ own) next given c f h = safe_pure given (λ ks e. for_later e (o ∷ own) next given (kept_plain _ (q ∷ sees) (o ∷ own) next given c f h))
@@ -400,7 +400,7 @@ module _ {w : Rows} {p : Program} (k : ProgramFacts w p) where
       (subst (λ o. result_conforms w o (target_result w well.class c.target) ≡ true) (sym result) well.reached.5) all))
   safe_bound at called.Bound g r sees ty shape v given able e are shaped alike is kept = absurd (true≢false (sym able))
 
--- what a call of an expression reaches, with its arguments
+-- what a call of an expression resolves to, with its arguments
 pub record CallTyped (w : Rows) (f : Env) (at : TypingContext) (of : TypedCallee) (o : Option ExprType) (list : Args) (iter : Bool) (g : ExprType) : Type 0 where
   pub on : ExprType
   pub on_is : o ≡ Some on
@@ -466,7 +466,7 @@ module _ {w : Rows} {p : Program} (k : ProgramFacts w p) (go : Continuation → 
   safe_widened_from : {base : List ObjectType} {y : Point} (at : Pos) (ty : ℕ) (v : Value) → is_immutable w ty ≡ true → HasType w base v ty → Safe w base y Value (λ ks u. GivenIs w ks (BoxedOf ty) u) (boxed_from p at ty v)
   safe_widened_from {base} at ty v i h = safe_if (is_unboxed ty v) (λ t. safe_raw at ty v i h) (λ t. absurd (true≢false (sym (raw_is k base ty i v h) ∙ t)))
 
-  -- ---- iter calls, binds and operators, whose parts are safe
+  -- ---- iter calls, binds and operators, whose subexpressions are safe
 
   module _ (isl : IsLocal w local) where
     -- ---- iter calls
@@ -513,7 +513,7 @@ module _ {w : Rows} {p : Program} (k : ProgramFacts w p) (go : Continuation → 
     iter_feature (target.GetShared n) e = absurd (true≢false (sym e))
     iter_feature (target.SetShared n) e = absurd (true≢false (sym e))
 
-    -- what stands at a site: what it calls, and what is known of the bound value
+    -- what is at a site: what it calls, and what is known of the bound value
     record SiteWell (x : TypingContext) (site : ℕ) (on : Option ExprType) (list : Args) (g : ExprType) : Type 0 where
       sc : Site
       there : slice_get sites site ≡ Some sc
@@ -550,7 +550,7 @@ module _ {w : Rows} {p : Program} (k : ProgramFacts w p) (go : Continuation → 
       bound = λ b. known_there site (calls_bound frame site) (type_of_expr frame x on) typed.on typed.reach sc.called s typed.on_is (ap (λ o. option_map_or (λ (i : Site). is_bound_call i.called) o false) e ∙ b) b typed.reach_is;
     }
 
-    -- an instance that stands at the site goes on
+    -- an instance at the site goes on
     safe_goes_on : {base : List ObjectType} (x : TypingContext) (at : Pos) (site : ℕ) (on : Option ExprType) (list : Args) (g : ExprType) (is : SiteWell x site on list g) → (o : Option (Instance × SiteInstances)) → FoundWell w base local site o → (self : Eval Value) (once others : Eval (List (Option Value))) → ((ks : List ObjectType) → Safe w ks (spot x) Value (λ js v. GivenIs w js is.typed.on v) self) → ((ks : List ObjectType) → Safe w ks (spot x) (List (Option Value)) (λ js vs. PartWell w js is_once is.typed.params vs) once) → ((ks : List ObjectType) → Safe w ks (spot x) (List (Option Value)) (λ js vs. PartWell w js not_once is.typed.params vs) others) → Safe w base (spot x) Value (λ ks v. GivenIs w ks g v) (iter_call p go site at self once others (variables_of list) o)
     safe_goes_on {base} x at site on list g is None stood self once others me first second =
         let backs = backs_of frame x is.typed.params list is.typed.fit in

@@ -84,9 +84,9 @@ module _ (w : Rows) (ks : List ObjectType) where
       (subst (λ (q : ParamType). ArgThat (λ b. HasType w ks b q.ty) true q.mode a) p.0 g.0)
 
 module _ {w : Rows} {p : Program} (k : ProgramFacts w p) (go : Continuation → Eval Completion) (safely : IsSafe w go) where
-  -- ---- where an instance stands
+  -- ---- the site of an instance
 
-  -- a site of what runs at a spot, from which a loop can be left
+  -- a site of what runs at a point, from which a loop can be left
   pub record CallSiteWell (ks : List ObjectType) (x : Point) (here : CallSite) : Type 0 where
     pub caller : ActivationWell w ks x.local x.place here.caller
     pub leaves : may_leave x.place ≡ true
@@ -95,7 +95,7 @@ module _ {w : Rows} {p : Program} (k : ProgramFacts w p) (go : Continuation → 
   pub station_later : {old new : List ObjectType} {x : Point} {here : CallSite} → HeapExtends old new → CallSiteWell old x here → CallSiteWell new x here
   station_later e h = record { caller = activation_later w e h.caller; leaves = h.leaves; local = h.local }
 
-  -- an instance with other variables, and with something else left
+  -- an instance with other variables, and with another continuation
   waiting : {ks : List ObjectType} {l : CodeEnv} {site : ℕ} {i : Instance} {f : TypedFeature} → InstanceWell w ks l site i f → (variables : List Value) (r : Continuation) → HaveTypes w ks variables f.vars → ContinuationWell w (local_of w i.feature f) outside r → InstanceWell w ks l site (record i { variables = variables; left = r }) f
   waiting h variables r are left = record {
     is = h.is;
@@ -124,7 +124,7 @@ module _ {w : Rows} {p : Program} (k : ProgramFacts w p) (go : Continuation → 
     reached = h.reached;
   }
 
-  -- the instance is gone
+  -- the instance is removed
   safe_ends : {base : List ObjectType} {x : Point} {A : Type 0} {P : List ObjectType → A → Type 0} (n : ℕ) (f : TypedFeature) (here : CallSite) (i : Instance) (event : ℕ → ℕ → ℕ → Event) (c : AbruptCause) → CallSiteWell base x here → ((s : State) → HeapExtends base (heap_typing s) → IsAt w x s → AbruptCauseWell w x c s) → SafeTo w base (spot_of w n f outside) x A P (instance_ends here i event >> stop c)
   safe_ends {x = x} n f here i event c h causes =
       safe_going _ (λ s e it. (

@@ -39,7 +39,7 @@ use Rattle.sa_type_safety.proofs.Passing.{GivenWell, ArgThat, given_later, Came,
 abbrev pub spot_of : Rows → ℕ → TypedFeature → TypingContext → Point
 spot_of w k f at = record { local = local_of w k f; place = at }
 
--- What is left of a body of a feature is run well. Where its last statement is a stop, its end isn't reached.
+-- The continuation of a body of a feature is run well. Where its last statement is a fault, its end isn't reached.
 abbrev pub FlowThat : Rows → Point → Continuation → List ObjectType → Completion → Type 0
 FlowThat w x r ks flow = CompletionWell w ks x.local x.place flow × (EndsInStop r → flow ≢ Done)
 
@@ -106,7 +106,7 @@ module _ (w : Rows) where
   came_of ks (m ∷ modes) (ty ∷ vars) (o ∷ own) [] p h = absurd h
   came_of ks (m ∷ modes) (ty ∷ vars) (o ∷ own) (v ∷ values) p h = (subst (λ (q : ParamType). HasType w ks v q.ty) (sym p.0) h.0, came_of ks modes vars own values p.1 h.1)
 
--- ---- a body whose last statement is a stop
+-- ---- a body whose last statement is a fault
 
 ends_by : (a : TypedStmt) (more : List TypedStmt) → option_map_or (λ s. is_stop (stmt_of s)) (slice_get (a ∷ more) (length more)) false ≡ true → EndsBy (stmt_of a) (all_of (block_of more))
 ends_by a [] e = e

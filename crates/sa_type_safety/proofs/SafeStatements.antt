@@ -1,4 +1,4 @@
--- Statements are safe, and so is what is left of them.
+-- Statements are safe, and so are their continuations.
 use Rattle.std.proofs.Common.{◌≡◌, ℕ, inl, inr, Bool, true, false, not, ◌&&◌, ◌==◌, if◌then◌else◌, List, ◌++◌, map, Option, Some, None, slice_get, is_some, refl, sym, ap, subst, ◌∙◌, true≢false, eqb-true}
 use Rattle.std.specs.Option.{option_map_or}
 use Rattle.std.proofs.lemmas.Bool.{or_left, not_from_true}
@@ -44,7 +44,7 @@ use Rattle.sa_type_safety.proofs.SafeCalls.{GivenIs}
 use Rattle.sa_type_safety.proofs.SafeArguments.{given_goes}
 use Rattle.sa_type_safety.proofs.SafeExpressions.{safe_evaluate}
 
--- ---- residues one after another
+-- ---- continuations one after another
 
 module _ (w : Rows) where
   joined_well : (l : CodeEnv) (at : TypingContext) (r rest : Continuation) → ContinuationWell w l at r → ContinuationWell w l at rest → ContinuationWell w l at (append r rest)
@@ -62,7 +62,7 @@ module _ {w : Rows} {p : Program} (k : ProgramFacts w p) (go : Continuation → 
   abbrev l : CodeEnv
   l = local_of w n f
 
-  -- a flow that is well typed at a place
+  -- the run of a statement that is well typed in a context
   abbrev Runs : List ObjectType → TypingContext → Eval Completion → Type 0
   Runs base at g = Safe w base (x at) Completion (λ ks flow. CompletionWell w ks l at flow) g
 
@@ -84,7 +84,7 @@ module _ {w : Rows} {p : Program} (k : ProgramFacts w p) (go : Continuation → 
   goes_is ty None h = absurd (true≢false (sym h))
   goes_is ty (Some g) h = (g, refl, h)
 
-  -- an expression that may stand where a type is wanted
+  -- an expression that is assignable to a type
   safe_goes : (base : List ObjectType) (at : TypingContext) (ty : ℕ) (e : Expr) → is_assignable_expr fr at ty e ≡ true → AreBoundTypes w l (expr_sites fr at e) → Safe w base (x at) Value (λ ks v. HasType w ks v ty) (evaluate p go e)
   safe_goes base at ty e h s =
       let found = goes_is ty (type_of_expr fr at e) h in
@@ -107,7 +107,7 @@ module _ {w : Rows} {p : Program} (k : ProgramFacts w p) (go : Continuation → 
 
   -- ---- loops
 
-  -- the sites of the running feature are left but for some
+  -- the sites of the running feature are cleared but for some
   safe_cleared : {base : List ObjectType} (at : TypingContext) (next : State → State) → ((s : State) → HeapExtends base (heap_typing s) → IsAt w (x at) s → IsAt w (x at) (next s) × (heap_typing (next s) ≡ heap_typing s)) → Safe w base (x at) (Unit {0}) Any (change next)
   safe_cleared at next h = safe_change _ (λ s e it. let there = h s e it in (subst (HeapExtends (heap_typing s)) (sym there.1) (extends_refl (heap_typing s)), there.0))
 
@@ -151,7 +151,7 @@ module _ {w : Rows} {p : Program} (k : ProgramFacts w p) (go : Continuation → 
         },
       )))))
 
-  -- from the inside of a loop to what is around it, and back: only what is known of the exception counts, which is the same
+  -- from the context inside a loop to the one around it, and back: only what is known of the exception counts, which is the same
   outer : (at : TypingContext) (loop : ℕ) (s : State) → IsAt w (x (in_loop loop at)) s → IsAt w (x at) s
   outer at loop s h = record { objects = h.objects; shareds = h.shareds; here = record { feature = h.here.feature; self = h.here.self; variables = h.here.variables; sites = h.here.sites; exception = h.here.exception } }
 
@@ -186,7 +186,7 @@ module _ {w : Rows} {p : Program} (k : ProgramFacts w p) (go : Continuation → 
   passes_round base at loop (Failed kind pos) s e c = halt _ s (extends_refl _) tt
   passes_round base at loop InputFailed s e c = halt _ s (extends_refl _) tt
 
-  -- a round or what is left of one, and then the further rounds
+  -- a round or the rest of one, and then the further rounds
   safe_looped : (base : List ObjectType) (at : TypingContext) (loop : ℕ) (body : Stmts) (g : Eval Completion) → LoopWell at loop body → ((ks : List ObjectType) → Runs ks (in_loop loop at) g) → Runs base at (run_loop p go loop body g)
   safe_looped base at loop body g h m =
       safe_resolve {y = x (in_loop loop at)} (safe (λ s e it. ends (m base) s e (inner at loop s it)))
@@ -194,7 +194,7 @@ module _ {w : Rows} {p : Program} (k : ProgramFacts w p) (go : Continuation → 
 
   -- ---- exceptions
 
-  -- from a branch of a protect to what is around it: the exception is what it was before
+  -- from a branch of a protect to the context around it: the exception is what it was before
   safe_restored : {base : List ObjectType} (at to : TypingContext) (exception : Option Value) → ExceptionWell w base to.branch exception → SafeTo w base (x at) (x to) (Unit {0}) Any (set_exception exception)
   safe_restored at to exception h =
       safe (λ s e it. give tt _ (extends_refl _) (record {
@@ -268,7 +268,7 @@ module _ {w : Rows} {p : Program} (k : ProgramFacts w p) (go : Continuation → 
   cases_tested at None arms h = absurd (true≢false (sym h))
   cases_tested at (Some tested) arms h = (tested, refl, h)
 
-  -- a value of a type that isn't immutable is of each such type above the one that it has
+  -- a value of a type that isn't immutable is of each supertype of its dynamic type that isn't immutable either
   retyped : (objects : List Object) (v : Value) (upper own ty : ℕ) → is_immutable w upper ≡ false → HasType w (map object_type_of objects) v upper → type_of objects v ≡ Some own → is_supertype w ty own ≡ true → is_immutable w ty ≡ false → HasType w (map object_type_of objects) v ty
   retyped objects Void upper own ty u h s e i = absurd (none-some own s)
   retyped objects (Int z) upper own ty u h s e i = absurd (true≢false (sym (subst (λ m. is_immutable w m ≡ true) (sym h) k.int_immutable) ∙ u))
@@ -299,7 +299,7 @@ module _ {w : Rows} {p : Program} (k : ProgramFacts w p) (go : Continuation → 
   to_branch ks ty own upper v true i u e inside h = subst (HasType w ks (unboxed v)) (sym (held_alone k ty own e i)) inside
   to_branch ks ty own upper v false i u e inside h = h ty u e i
 
-  -- and where it may be: of its own type, where this is below that of the branch
+  -- and what types it has: its own, where this is a subtype of that of the branch
   cased : (ks : List ObjectType) (ty own upper : ℕ) (v : Value) (b c u : Bool) → is_supertype w ty upper ≡ b → is_immutable w ty ≡ c → is_immutable w upper ≡ u → is_supertype w ty own ≡ true → is_supertype w upper own ≡ true → HasType w ks (unboxed v) own → HasType w ks v upper → ((of : ℕ) → is_immutable w upper ≡ false → is_supertype w of own ≡ true → is_immutable w of ≡ false → HasType w ks v of) → HasType w ks (if c then unboxed v else v) (if b then upper else ty)
   cased ks ty own upper v true true u s i m e g inside h more =
       let same = held_alone k ty upper s i in
@@ -486,7 +486,7 @@ module _ {w : Rows} {p : Program} (k : ProgramFacts w p) (go : Continuation → 
     safe_execute_else_with base at v (otherwise body) again a g h s t m =
         safe_with_exception base at ob_type v (execute_all p go body) a g t (λ ks. safe_execute_all ks (in_branch ob_type at) body h s)
 
-  -- ---- what is left of statements
+  -- ---- continuations of statements
 
   pub safe_left : (base : List ObjectType) (at : TypingContext) (r : Continuation) → ContinuationWell w l at r → Runs base at (resume_at p go r)
   safe_left base at Finished h = safe_pure Done (λ ks i. tt)

@@ -54,7 +54,7 @@ module _ {w : Rows} {number : ℕ} (well : AreWellTyped w number) where
       (λ e. safe_change _ (λ t h it. (extends_refl _, record { objects = it.objects; shareds = it.shareds; here = it.here })))
       (λ e. safe_stop _ (λ t h it. tt)))
 
-  -- a new object, which is known by its number
+  -- a new object, whose number is in the heap typing
   pub safe_add_object : {base : List ObjectType} {x : Point} (o : Object) → ((ks : List ObjectType) → HeapExtends base ks → ObjectWell w ks o) → Safe w base x ℕ (λ ks number. slice_get ks number ≡ Some (object_type_of o)) (add_object o)
   safe_add_object o made = safe (λ s g is.
       let e : HeapExtends (heap_typing s) (map object_type_of (s.objects ++ o ∷ [])) = record { more = object_type_of o ∷ []; is = map_append_one s.objects o } in
@@ -66,13 +66,13 @@ module _ {w : Rows} {number : ℕ} (well : AreWellTyped w number) where
       })
       (get_last s.objects o))
 
-  -- an object that is known
+  -- an object in the heap typing
   pub safe_object_at : {base : List ObjectType} {x : Point} (number : ℕ) (k : ObjectType) → slice_get base number ≡ Some k → Safe w base x Object (λ ks o. (object_type_of o ≡ k) × ObjectWell w ks o) (object_at number)
   safe_object_at number k e =
       safe_looking _ (λ s g is. let found = get_object s.objects number k (known_later g number k e) in
       safe_some found.0 found.1 (λ ks h. (found.2, object_later w h found.0 (each_get (ObjectWell w (heap_typing s)) s.objects number found.0 found.1 is.objects))))
 
-  -- another object of the same type at the place of one that is known
+  -- another object of the same type in place of one in the heap typing
   pub safe_set_object : {base : List ObjectType} {x : Point} (number : ℕ) (o : Object) → slice_get base number ≡ Some (object_type_of o) → ((ks : List ObjectType) → HeapExtends base ks → ObjectWell w ks o) → Safe w base x (Unit {0}) Any (set_object number o)
   safe_set_object number o e made = safe_change _ (λ s g is.
       let found = get_object s.objects number (object_type_of o) (known_later g number _ e) in

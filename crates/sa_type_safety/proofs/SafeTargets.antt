@@ -1,4 +1,4 @@
--- What a call reaches runs safely: features, built-in ones, attributes and shareds.
+-- The target of a call runs safely: features, built-in ones, attributes and shareds.
 use Rattle.std.proofs.Common.{◌≡◌, ℕ, zero, suc, Bool, true, false, if◌then◌else◌, List, [], ◌∷◌, map, length, Option, Some, None, slice_get, option_and_then, is_some, refl, sym, ap, subst, ◌∙◌, true≢false, arith}
 use Rattle.std.specs.Option.{option_map_or}
 use Rattle.std.proofs.lemmas.Option.{same_Some, none-some, slice_get-map}
@@ -151,7 +151,7 @@ module _ {w : Rows} {p : Program} (k : ProgramFacts w p) (go : Continuation → 
       subst (λ m. Reaches base x at m (target.Feature n) own self given) same
       (safe_routine k go safely at n found.0 own self given found.1 (subst (λ m. Takes w m (target.Feature n) own) (sym same) takes) plain (subst (HasType w base self) (sym same) me) h)
 
-  -- what is reached gives a value of the type of its result
+  -- the target of a call gives a value of the type of its result
   pub safe_reached : {base : List ObjectType} {x : Point} (at : Pos) (class : ℕ) (t : Target) (own : List ParamType) (self : Value) (given : List (Option Value)) → Takes w class t own → is_target_iter w t ≡ false → HasType w base self class → GivenWell w base false own given → Reaches base x at class t own self given
   safe_reached at class (target.Feature n) own self given takes routine me h = safe_featured at class n own self given takes routine me h
   safe_reached at class (target.Builtin b) own self given takes routine me h = safe_built at class b own self given takes me h

@@ -1,4 +1,4 @@
--- A well-typed tree and the program that it means have to do with each other what the lemmas on runs ask.
+-- A well-typed AST and the program of its semantics have the facts that the lemmas on runs ask for.
 use Rattle.sa_typed.specs.declared.program.TypedProgram.{TypedProgram}
 use Rattle.sa_typing.specs.WellTyped.{rows_of, IsWellTyped}
 use Rattle.sa_semantics.specs.Program.{program_of}

@@ -33,7 +33,7 @@ count_is count n false e = absurd (none-some n e)
 -- ---- the parameters of features
 
 module _ (w : Rows) where
-  -- a list that has these parameters by their places
+  -- a list that has these parameters by their indices
   record Listed (count : ℕ) (at : ℕ → Option ParamType) : Type 0 where
     pub params : List ParamType
     pub counts : length params ≡ count

@@ -1,4 +1,4 @@
--- The end of a body whose last statement is a stop isn't reached.
+-- The end of a body whose last statement is a fault isn't reached.
 use Rattle.std.proofs.Common.{◌≡◌, ℕ, Bool, true, false, if◌then◌else◌, refl, sym, ap, ◌∙◌, true≢false}
 use Rattle.std.specs.Prelude.{◌&&◌, nat_le}
 use Rattle.sa_ast.specs.declared.fault_kind.FaultKind.{FaultKind}
@@ -107,7 +107,7 @@ module _ (p : Program) (go : Continuation → Eval Completion) where
     unended_rest loop body (Then b more) e = unended_by b more e
     unended_rest loop body (InLoop number inner within more) e = unended_followed _ more _ (unended_rest number inner more e)
 
-  -- what ends in a stop never comes to its end
+  -- what ends in a fault never comes to its end
   unended_left : (r : Continuation) → EndsInStop r → Unended (resume_at p go r)
   unended_left Finished e = absurd e
   unended_left (Then a rest) e = unended_by a rest e

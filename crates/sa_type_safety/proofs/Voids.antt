@@ -1,4 +1,4 @@
--- The void of a type is of the type: no immutable class holds itself, so that the number of types is depth enough.
+-- The void value of a type is of the type: no immutable class holds itself, so that the number of types is depth enough.
 use Rattle.std.proofs.Common.{◌≡◌, ℕ, zero, suc, ◌+◌, ◌<◌, ◌≤◌, ◌++◌, inl, inr, Bool, true, false, not, ◌||◌, ◌==◌, if◌then◌else◌, cond, filter, replicate, pos, List, [], ◌∷◌, map, length, Some, slice_get, refl, sym, ap, subst, ◌∙◌, true≢false, eqb-true, arith}
 use Rattle.std.proofs.lemmas.List.{length-map}
 use Rattle.std.proofs.lemmas.Bool.{and_from, cases_Bool, cond-true, cond-false, cases_eq, eq-eqb, ne_eqb, not_from_false, or_left}
@@ -17,7 +17,7 @@ use Rattle.sa_type_safety.specs.Typing.{ObjectType, AreOf, HasType, attributes}
 use Rattle.sa_type_safety.proofs.Facts.{one_of, some_that, all_at, same_immutable, same_attributes}
 use Rattle.sa_type_safety.proofs.ExprType.{bool_is, char_is, int_is, layout_at, layout_of, seen, some_is}
 
--- ---- the types on the way, marked by their numbers
+-- ---- the types on the path, marked by their indices
 
 abbrev mark : (ℕ → Bool) → ℕ → ℕ → Bool
 mark marked k n = n == k || marked n
@@ -100,7 +100,7 @@ module _ (w : Rows) where
       subst (λ n. HasEdge (starts_from w 0 w.types) (ends_from w w.types) n to) (omega arith)
       (edge_from 0 w.types ty t there.0 to e (ap (λ (list : List ℕ). slice_get list there.0) (cond-true (is_immutable_kind t.kind) (filter (is_immutable w) t.attrs) [] imm) ∙ there.1))
 
--- ---- the void of a type
+-- ---- the void value of a type
 
 module _ (core : TypedProgram) (well : IsWellTyped core) (ks : List ObjectType) where
   -- a test of a type that goes wrong, since the type is immutable and the other isn't
@@ -174,7 +174,7 @@ module _ (core : TypedProgram) (well : IsWellTyped core) (ks : List ObjectType) 
   unmarked marked ty leads inside =
       elim (cases_Bool (marked ty)) as (λ x. marked ty ≡ false) [ inl on ↦ absurd (well.flat ty inside (leads ty on)) | inr is ↦ is ]
 
-  -- at some depth, where no more types can come on the way than that
+  -- at some depth, where no more types can come on the path than that
   void_has : (depth : ℕ) (marked : ℕ → Bool) (ty : ℕ) → left marked (length core.types) ≤ depth → Lead marked ty → is_type (rows_of core) ty ≡ true → HasType (rows_of core) ks (void_in (program_of core) depth ty) ty
   void_has zero marked ty le leads is =
       absurd (omega (arith, le, left_less marked ty (length core.types) (unmarked marked ty leads (within ty is)) (within ty is)))

@@ -1,4 +1,4 @@
--- What calls of signatures and of bound values widen when they come back: written types say it as the rows do.
+-- What calls of signatures and of bound values box when they return: written types say it as the rows do.
 use Rattle.std.proofs.Common.{◌≡◌, ℕ, suc, ◌+◌, inl, inr, Bool, true, false, List, [], ◌∷◌, Option, Some, None, slice_get, option_map, option_and_then, refl, sym, ap, ap₂, subst, ◌∙◌, true≢false, arith}
 use Rattle.std.proofs.lemmas.Bool.{cases_Bool, cond-true, cond-false}
 use Rattle.std.proofs.lemmas.Option.{none-some, same_Some, slice_get-map}
@@ -6,7 +6,7 @@ use Rattle.sa_ast.specs.declared.class.ClassKind.{ClassKind}
 use Rattle.sa_ast.specs.declared.class.ClassKind.TheVariants as kind
 use Rattle.sa_ast.specs.TypeEquality.{same_type, same_type_Decides}
 use Rattle.sa_ast.specs.Types.{BareTy, Named, Same, Rout, Iter, BareArgs, no_args, arg, BareResult, no_result, gives, bare, all_bare_args, option_bare}
-use Rattle.sa_types.specs.Abstract.{is_abstract_bare, is_abstract_type}
+use Rattle.sa_subst.specs.Abstract.{is_abstract_bare, is_abstract_type}
 use Rattle.sa_typed.specs.declared.program.TypedProgram.{TypedProgram}
 use Rattle.sa_typed.specs.declared.program.TypedSignature.{TypedSignature}
 use Rattle.sa_typed.specs.declared.program.TypeDef.{TypeDef}
@@ -31,7 +31,7 @@ pub map_some : {A B : Type 0} (f : A → B) (o : Option A) (b : B) → option_ma
 map_some f None b e = absurd (none-some b e)
 map_some f (Some a) b e = (a, refl, same_Some (f a) b e)
 
--- ---- a written type is abstract where the type with its number is
+-- ---- a written type is abstract where the type with its index is
 
 class_dollar : (k : ClassKind) (dollar : Bool) → is_class_kind k dollar ≡ true → dollar ≡ is_abstract_kind k
 class_dollar kind.Partial dollar h = absurd (true≢false (sym h))

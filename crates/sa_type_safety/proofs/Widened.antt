@@ -1,4 +1,4 @@
--- Which arguments of a target calls widen: those whose parameters have abstract types.
+-- Which arguments of a target calls box: those whose parameters have abstract types.
 use Rattle.std.proofs.Common.{◌≡◌, ℕ, zero, suc, inl, inr, Bool, true, false, ◌||◌, ◌==◌, List, [], ◌∷◌, map, length, Option, Some, None, slice_get, option_map, unwrap_or, refl, sym, ap, subst, ◌∙◌, true≢false, eqb-true}
 use Rattle.std.specs.Option.{option_map_or}
 use Rattle.std.proofs.lemmas.Option.{none-some, same_Some, slice_get-map}
@@ -25,9 +25,9 @@ use Rattle.sa_type_safety.proofs.Taken.{count_is}
 use Rattle.sa_type_safety.proofs.Wide.{then_some, map_some}
 use Rattle.sa_type_safety.proofs.ProgramFacts.{AreTheWide, AreWide}
 
--- ---- by places
+-- ---- by indices
 
--- the test at a place, which is false behind the end
+-- the test at an index, which is false after the end
 abbrev flag_at : List Bool → ℕ → Bool
 flag_at flags place = unwrap_or (slice_get flags place) false
 

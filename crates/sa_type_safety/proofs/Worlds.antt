@@ -1,4 +1,4 @@
--- What is well typed stays so while objects are added, and while an object of the same kind is put at the place of another.
+-- What is well typed stays so while objects are added, and while an object is replaced by another of the same kind.
 use Rattle.std.proofs.Common.{◌≡◌, ℕ, zero, suc, Bool, true, false, List, [], ◌∷◌, ◌++◌, map, set, Option, Some, None, slice_get, refl, sym, ap, subst, ◌∙◌}
 use Rattle.std.proofs.lemmas.Option.{same_Some, none-some}
 use Rattle.sa_typed.specs.declared.feature.TypedCallee.{TypedCallee}
@@ -52,7 +52,7 @@ get_known [] i o e = absurd (none-some o e)
 get_known (a ∷ more) zero o e = ap (λ x. Some (object_type_of x)) (same_Some a o e)
 get_known (a ∷ more) (suc i) o e = get_known more i o e
 
--- an object that is known is there
+-- there is an object where the heap typing has one
 pub get_object : (objects : List Object) (i : ℕ) (k : ObjectType) → slice_get (map object_type_of objects) i ≡ Some k → (o : Object) × (slice_get objects i ≡ Some o) × (object_type_of o ≡ k)
 get_object [] i k e = absurd (none-some k e)
 get_object (a ∷ more) zero k e = (a, refl, same_Some (object_type_of a) k e)

@@ -1,5 +1,4 @@
--- Well-typed states: which values a place of a type may hold, and when objects, instances, what is left of a body, activations and
--- whole states are well typed.
+-- Well-typed states: the values of a type, and when objects, instances, continuations, activations and whole states are well typed.
 use Rattle.std.specs.Prelude.{◌≡◌, ◌⊎◌, ℕ, ◌++◌, Bool, true, false, not, IsTrue, ◌&&◌, ◌==◌, if◌then◌else◌}
 use Rattle.std.specs.Prelude.{List, [], ◌∷◌, map, length, slice_get, Option, Some, None, is_some}
 use Rattle.sa_typed.specs.declared.feature.TypedCallee.{TypedCallee}
@@ -34,7 +33,7 @@ abbrev pub Each : {A : Type 0} → (A → Type 0) → List A → Type 0
 Each P [] = Unit {0}
 Each P (a ∷ more) = P a × Each P more
 
--- ---- what stays as it is of an object: its type, and what it calls where it is a bound value
+-- ---- the heap typing: of each object what never changes, its type, and what it calls where it is a bound value
 
 pub record ObjectType : Type 0 where
   pub ty : ℕ
@@ -51,9 +50,9 @@ pub record HeapExtends (old new : List ObjectType) : Type 0 where
   pub more : List ObjectType
   pub is : new ≡ old ++ more
 
--- ---- residues that end in a stop
+-- ---- continuations that end in a fault
 
--- the last statement is a stop, where this one comes before what is left
+-- the last statement is a fault, where this one comes before the continuation
 abbrev pub EndsBy : Stmt → Continuation → Type 0
 EndsBy a Finished = IsTrue (is_stop a)
 EndsBy a (Then b rest) = EndsBy b rest
@@ -104,7 +103,7 @@ module _ (w : Rows) where
 
   module _ (objects : List ObjectType) where
     abbrev mutual
-      -- a place of the type may hold the value
+      -- the value is of the type
       pub HasType : Value → ℕ → Type 0
       HasType Void ty = is_immutable w ty ≡ false
       HasType (Int z) ty = ty ≡ int_type
@@ -141,7 +140,7 @@ module _ (w : Rows) where
     -- ---- bound values
 
     -- The arguments of what a bound value calls, by its parameters. An open one takes what the next parameter of the bound type takes, and
-    -- gives what that gives; at each other there is a value that is kept.
+    -- gives what that gives; at each other there is a value that is stored.
     abbrev pub AreBound : List ParamType → List Bool → List Value → List ParamType → Type 0
     AreBound [] [] [] [] = Unit {0}
     AreBound (own ∷ others) (true ∷ more) kept (p ∷ params) = IsTrue (param_conforms w p (Some own)) × AreBound others more kept params
@@ -149,7 +148,7 @@ module _ (w : Rows) where
         IsTrue (is_value_mode own.mode) × HasType v own.ty × AreBound others more kept params
     AreBound _ _ _ _ = ⊥
 
-    -- a bound value of a type calls this, with this receiver and these kept values
+    -- a bound value of a type calls this, with this receiver and these stored values
     pub record IsBoundTo (ty : ℕ) (b : Binding) (receiver : Value) (kept : List Value) : Type 0 where
       pub shape : CallType
       pub is : call_type_at w.bound ty ≡ Some shape
@@ -190,7 +189,7 @@ module _ (w : Rows) where
   IsLocal l =
       ((k : ℕ) × (f : TypedFeature) × (slice_get w.features k ≡ Some f) × (l ≡ local_of k f)) ⊎ ((class : ℕ) × (l ≡ shared_local class))
 
-  -- ---- what is left of a body
+  -- ---- continuations
 
   module _ (l : CodeEnv) where
     -- each bound value that is called at a site is of the type that is known there
@@ -214,7 +213,8 @@ module _ (w : Rows) where
   -- ---- instances
 
   module _ (objects : List ObjectType) where
-    -- A call of this reaches a target of a class, which takes these parameters. The bound value that is called is of a type that is known.
+    -- A call of this resolves to a target of a class, which takes these parameters. The bound value that is called is of a type that is
+    -- known.
     abbrev pub IsCallee : TypedCallee → Option ℕ → ℕ → Target → List ParamType → Option ℕ → Type 0
     IsCallee (called.Static t of) bound class target own through = (t ≡ target) × (of ≡ class)
     IsCallee (called.Dispatch n) bound class target own through =
@@ -265,10 +265,10 @@ module _ (w : Rows) where
     pub shareds : HaveTypes (heap_typing s) s.shareds (map (λ shared. shared.ty) w.shareds)
     pub here : ActivationWell (heap_typing s) l at s.here
 
-  -- ---- how statements end
+  -- ---- how statements complete
 
   module _ (objects : List ObjectType) (l : CodeEnv) (at : TypingContext) where
-    -- a value that is given back is of the type of the result
+    -- a value that is returned is of the type of the result
     abbrev pub GivesBack : Value → Type 0
     GivesBack v = HasTypeIf objects l.frame.gives v
 

@@ -1,5 +1,5 @@
-//! Type soundness of Sather: the meaning of a well-typed tree never gets stuck. No code runs this; it is a law of the definitions of
-//! `sa_typing` and `sa_semantics`.
+//! Type safety of Sather: the semantics of a well-typed program never gets stuck. No code runs this; it is a law of the typing rules of
+//! `sa_typing` and the semantics of `sa_semantics`.
 #![tactic(auto)]
 
 mod law;

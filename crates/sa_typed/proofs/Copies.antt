@@ -1,4 +1,4 @@
--- The trees of `src/` as the definitions see them, at each variant.
+-- The ASTs of `src/` as the definitions see them, at each variant.
 use Rattle.std.proofs.Common.{◌≡◌, ℕ, ℤ, Bool, List, Option, None, Some, sym, ap, ◌∙◌}
 use Rattle.sa_ast.specs.declared.fault_kind.FaultKind.{FaultKind}
 use Rattle.sa_ast.specs.declared.pos.Pos.{Pos}

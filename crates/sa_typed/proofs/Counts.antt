@@ -1,4 +1,4 @@
--- The nodes of lists from a place on.
+-- The nodes of lists from an index on.
 use Rattle.std.proofs.Common.{◌≡◌, ℕ, ◌+◌, ◌<◌, List, length, get_or, drop, add-one, drop-cons}
 use Rattle.std.proofs.Math.Seq.{drop-length}
 use Rattle.sa_typed.specs.declared.expr.TypedArg.{TypedArg}

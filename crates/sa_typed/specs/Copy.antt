@@ -1,4 +1,4 @@
--- The trees of `src/` as the definitions see them.
+-- The ASTs of `src/` as the definitions see them.
 use Rattle.std.specs.Prelude.{ℕ, List, [], ◌∷◌, map, Option, Some, None}
 use Rattle.std.specs.Option.{option_map}
 use Rattle.sa_typed.specs.declared.expr.TypedArg.{TypedArg}
@@ -27,7 +27,7 @@ abbrev pub arg_list : List Arg → Args
 arg_list [] = no_args
 arg_list (a ∷ more) = arg a (arg_list more)
 
--- ---- one level of an expression or an argument, of which the parts are done
+-- ---- one level of an expression or an argument, whose parts are done
 
 abbrev pub expr_level : TypedExpr-F Arg Expr → Expr
 expr_level (TypedExpr-F.Int value) = Int value
@@ -95,7 +95,7 @@ abbrev pub else_stmts : Option (List Stmt) → Else
 else_stmts None = no_else
 else_stmts (Some list) = otherwise (stmt_list list)
 
--- ---- one level of a statement, of which the statements inside are done
+-- ---- one level of a statement, whose nested statements are done
 
 abbrev pub stmt_level : TypedStmt-F Stmt (ℕ × ℕ × Stmts) (Exprs × Stmts) → Stmt
 stmt_level (TypedStmt-F.Assign var value) = Assign var (expr_of value)
@@ -122,7 +122,7 @@ arm_level a = (a.ty, a.var, stmt_list a.body)
 unfoldable pub stmt_of : TypedStmt → Stmt
 stmt_of = fold-TypedStmt Stmt (ℕ × ℕ × Stmts) (Exprs × Stmts) stmt_level arm_level test_level
 
--- the tests and the statements of an entry of an `if`
+-- the tests and the statements of an arm of an `if`
 unfoldable pub test_of : TypedBranch → Exprs × Stmts
 test_of = fold-TypedBranch Stmt (ℕ × ℕ × Stmts) (Exprs × Stmts) stmt_level arm_level test_level
 

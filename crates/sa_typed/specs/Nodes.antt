@@ -1,5 +1,5 @@
--- The nodes of a feature: the statements of its body, the branches of its typecases and protects, and its expressions, those
--- inside others included. Those of a shared are the expressions of its initialiser.
+-- The nodes of a feature: the statements of its body, the branches of its typecases and protects, and its expressions, nested ones
+-- included. Those of a shared are the expressions of its initialiser.
 use Rattle.std.specs.Prelude.{ℕ, ◌+◌, Option, Some, None, min}
 use Rattle.sa_typed.specs.declared.feature.TypedFeature.{TypedFeature}
 use Rattle.sa_typed.specs.declared.program.TypedShared.{TypedShared}
@@ -83,6 +83,6 @@ feature_nodes f = stmts_nodes (block_of f.body)
 abbrev pub shared_nodes : TypedShared → ℕ
 shared_nodes s = option_expr_nodes (option_expr_of s.start)
 
--- a number that 32 bits hold, or the greatest of these
+-- a number that fits into 32 bits, or the greatest that does
 abbrev pub capped : ℕ → ℕ
 capped n = min n 4294967295

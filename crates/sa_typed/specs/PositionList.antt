@@ -1,4 +1,4 @@
--- The positions that the expressions and statements of a program carry, each before those of its children, and these in the
+-- The positions that the expressions and statements of a program carry, in preorder: each before those of its children, and these in the
 -- order of the fields.
 use Rattle.std.specs.Prelude.{List, [], ◌∷◌, ◌++◌, Option, Some, None, flat_map}
 use Rattle.sa_ast.specs.declared.pos.Pos.{Pos}

@@ -1,5 +1,5 @@
--- Typed expressions and statements as the definitions see them: the trees of `src/`, with their lists written out, so that a
--- definition goes down them by cases.
+-- Typed expressions and statements as the definitions see them: the ASTs of `src/`, with their lists written out, so that a definition
+-- recurses on them by cases.
 use Rattle.std.specs.Prelude.{ℕ, ℤ, Bool, List, Option}
 use Rattle.sa_ast.specs.declared.fault_kind.FaultKind.{FaultKind}
 use Rattle.sa_ast.specs.declared.pos.Pos.{Pos}
@@ -42,7 +42,7 @@ mutual
     no_args : Args
     arg : Arg → Args → Args
 
--- what leaves the innermost loop: always, where the test is false, or where it is true
+-- what exits the innermost loop: always, where the test is false, or where it is true
 pub data Exit : Type 0 where
   Break : Exit
   While Until : (test : Expr) → Exit
@@ -66,7 +66,7 @@ mutual
     no_stmts : Stmts
     stmt : Stmt → Stmts → Stmts
 
-  -- tests, each list of which has its statements
+  -- tests, each list of which comes with its statements
   pub data Tests : Type 0 where
     no_tests : Tests
     branch : (tests : Exprs) → (body : Stmts) → Tests → Tests

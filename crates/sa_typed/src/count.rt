@@ -1,5 +1,5 @@
-//! How many nodes a feature, a shared or an expression has: statements, branches of typecases and protects, and expressions,
-//! those inside others included. A count that 32 bits don't hold is told as the greatest number that they do.
+//! How many nodes a feature, a shared or an expression has: statements, branches of typecases and protects, and expressions, nested ones
+//! included. A count that doesn't fit into 32 bits is given as the greatest number that does.
 
 ghost use Rattle.std.specs.Prelude.{◌≡◌, ◌+◌};
 ghost use Rattle.sa_typed.specs.Copy.{arg_of, args_of, arm_of, arms_of, block_of, exit_of, expr_of};

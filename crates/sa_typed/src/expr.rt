@@ -15,7 +15,7 @@ pub enum TypedArg {
     Open,
 }
 
-/// A typed expression. Numbers of types are places in the program's types.
+/// A typed expression. The number of a type is its index in the program's types.
 #[cycle(expr)]
 #[derive(Drop)]
 pub enum TypedExpr {
@@ -28,24 +28,24 @@ pub enum TypedExpr {
     /// `self`
     SelfRef,
     Var(u32),
-    /// The exception of the innermost branch around the place.
+    /// The exception of the innermost enclosing branch.
     Exception,
     IsVoid(Boxed<TypedExpr>),
     /// A new object of a type.
     New(u32, Pos),
-    /// A new object of a type with an array part of so many elements.
+    /// A new object of a type with an array part of this many elements.
     NewArray(u32, Boxed<TypedExpr>, Pos),
-    /// An array of a type with these elements.
+    /// An array of a type, with these elements.
     Array(u32, Items<TypedExpr>, Pos),
     Call(TypedCallee, Boxed<TypedExpr>, Items<TypedArg>, Pos),
-    /// A call at a site of the feature, by the site's number.
+    /// An iter call at a site of the feature, by the site's number.
     IterCall(u32, Boxed<TypedExpr>, Items<TypedArg>, Pos),
-    /// A bound value of a type.
+    /// A bound value of a bound type.
     Bind(TypedCallee, Boxed<TypedExpr>, Items<TypedArg>, u32, Pos),
-    /// Evaluates its operands from left to right and calls with the second as receiver.
+    /// Evaluates its operands from left to right, then calls the target with the second as receiver.
     Reversed(Target, Boxed<TypedExpr>, Boxed<TypedExpr>, Pos),
     And(Boxed<TypedExpr>, Boxed<TypedExpr>),
     Or(Boxed<TypedExpr>, Boxed<TypedExpr>),
-    /// A value of an immutable class, whose number stands first, where an abstract type is wanted.
+    /// A value of an immutable class, boxed since an abstract type is expected. The number is that of the immutable class.
     Box(u32, Boxed<TypedExpr>, Pos),
 }

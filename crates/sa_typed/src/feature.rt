@@ -1,18 +1,18 @@
-//! Routines and iters, what a call reaches, and the sites of iter calls.
+//! Routines and iters, targets of calls, and the sites of iter calls.
 
 use crate::stmt::TypedStmt;
 use sa_ast::{Mode, Pos};
 use sa_prelude::BuiltinFeature;
 use sqlite_items::Items;
 
-/// What a call does, once its class is known.
+/// What a call does, once the class of its receiver is known.
 #[derive(Clone, Copy, Debug, PartialEq, Eq, Hash)]
 pub enum Target {
-    /// A routine or an iter by its number.
+    /// Calls a routine or an iter, by its number.
     Feature(u32),
-    /// A built-in feature.
+    /// Calls a built-in feature.
     Builtin(BuiltinFeature),
-    /// Reads an attribute, by its place among the attributes of the class.
+    /// Reads an attribute, by its index among the attributes of the class.
     Get(u32),
     /// Writes an attribute.
     Set(u32),
@@ -22,12 +22,12 @@ pub enum Target {
     SetShared(u32),
 }
 
-/// What is called.
+/// The callee of a call.
 #[derive(Clone, Copy, Debug, PartialEq, Eq, Hash)]
 pub enum TypedCallee {
-    /// A feature of the type with this number, known when the program is compiled.
+    /// A feature of the type with this number, resolved at compile time.
     Static(Target, u32),
-    /// The implementation of a signature, by the class that the receiver has when the program runs.
+    /// The implementation of a signature, chosen by the class of the receiver at run time.
     Dispatch(u32),
     /// A bound value.
     Bound,
@@ -41,15 +41,15 @@ pub struct Site {
     pub pos: Pos,
 }
 
-/// A routine or an iter of a needed instance, at the position of its name.
+/// A routine or an iter of an instance that the program needs, at the position of its name.
 #[derive(Drop)]
 pub struct TypedFeature {
     /// The number of the instance.
     pub class: u32,
     pub iter: bool,
-    /// The modes of the arguments, which are the first variables.
+    /// The modes of the parameters, which are the first variables.
     pub modes: Items<Mode>,
-    /// The numbers of the variables' types: the arguments, then the others in the order of their declarations.
+    /// The numbers of the variables' types: the parameters, then the other variables in the order of their declarations.
     pub vars: Items<u32>,
     pub result: Option<u32>,
     /// The sites in the order in which they were typed.

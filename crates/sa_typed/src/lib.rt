@@ -1,5 +1,5 @@
-//! The typed tree of an accepted program: classes and their parameters are gone, choices are made, and what the meaning of
-//! the program speaks of has a number.
+//! The typed AST of an accepted program. Classes and their type parameters are gone, calls are resolved, and everything that the semantics
+//! of the program speaks of has a number. (The rules by which it is well typed are in `sa_typing`.)
 #![tactic(auto)]
 
 mod count;

@@ -1,5 +1,5 @@
-//! The positions that the expressions and statements of a program carry, each before those of its children, and these in
-//! the order of the fields. A fault of the running program is told by its place in this list.
+//! The positions that the expressions and statements of a program carry, each before those of its children, and these in the order of the
+//! fields. A fault of the running program is reported by the index of its position in this list.
 
 ghost use Rattle.std.specs.Prelude.{◌≡◌, [], ◌∷◌, ◌++◌, flat_map, IfOk, OnOk};
 ghost use Rattle.sa_typed.specs.Copy.{arg_of, args_of, arm_of, arms_of, block_of, exit_of, expr_of};
@@ -12,13 +12,14 @@ use crate::expr::{TypedArg, TypedExpr};
 use crate::feature::TypedFeature;
 use crate::program::{TypedProgram, TypedShared};
 use crate::stmt::{LoopExit, TypedArm, TypedBranch, TypedStmt};
-use sa_ast::{NoMemory, Pos};
+use failure::Failure;
+use sa_ast::Pos;
 use sqlite_items::Items;
 use std::alloc::Global;
 
-/// The positions that the expressions and statements of a program carry: those of the shareds' initialisers by number,
-/// then those of the features' bodies by number. A position may come more than once.
-pub fn positions(alloc: Global, core: &TypedProgram) -> Result<Items<Pos>, NoMemory>
+/// The positions that the expressions and statements of a program carry: those of the shareds' initialisers by number, then those of the
+/// features' bodies by number. A position may occur more than once.
+pub fn positions(alloc: Global, core: &TypedProgram) -> Result<Items<Pos>, Failure>
     ensures { IfOk result (λ found. found ≡ program_positions core.now) }
 {
     let mut found = Items::new(alloc);
@@ -28,7 +29,7 @@ pub fn positions(alloc: Global, core: &TypedProgram) -> Result<Items<Pos>, NoMem
 }
 
 #[tactic(auto, using(crate::proofs::PositionLists::places))]
-fn add_shareds(found: &mut Items<Pos>, shareds: &[TypedShared]) -> Result<(), NoMemory>
+fn add_shareds(found: &mut Items<Pos>, shareds: &[TypedShared]) -> Result<(), Failure>
     ensures { OnOk result (found.new ≡ found.old ++ flat_map shared_positions shareds.now) }
 {
     for shared in shareds {
@@ -38,7 +39,7 @@ fn add_shareds(found: &mut Items<Pos>, shareds: &[TypedShared]) -> Result<(), No
 }
 
 #[tactic(auto, using(crate::proofs::PositionLists::places))]
-fn add_features(found: &mut Items<Pos>, features: &[TypedFeature]) -> Result<(), NoMemory>
+fn add_features(found: &mut Items<Pos>, features: &[TypedFeature]) -> Result<(), Failure>
     ensures { OnOk result (found.new ≡ found.old ++ flat_map feature_positions features.now) }
 {
     for feature in features {
@@ -47,7 +48,7 @@ fn add_features(found: &mut Items<Pos>, features: &[TypedFeature]) -> Result<(),
     Ok(())
 }
 
-fn add_pos(found: &mut Items<Pos>, pos: Pos) -> Result<(), NoMemory>
+fn add_pos(found: &mut Items<Pos>, pos: Pos) -> Result<(), Failure>
     ensures { OnOk result (found.new ≡ found.old ++ pos ∷ []) }
 {
     found.push(pos)?;
@@ -56,7 +57,7 @@ fn add_pos(found: &mut Items<Pos>, pos: Pos) -> Result<(), NoMemory>
 
 #[tactic(auto, using(crate::proofs::PositionLists::parts))]
 #[cycle(add_expr)]
-fn add_expr(found: &mut Items<Pos>, expr: &TypedExpr) -> Result<(), NoMemory>
+fn add_expr(found: &mut Items<Pos>, expr: &TypedExpr) -> Result<(), Failure>
     ensures { OnOk result (found.new ≡ found.old ++ expr_positions (expr_of expr.now)) }
 {
     match expr {
@@ -99,7 +100,7 @@ fn add_expr(found: &mut Items<Pos>, expr: &TypedExpr) -> Result<(), NoMemory>
 
 #[tactic(auto, using(crate::proofs::PositionLists::places))]
 #[cycle(add_expr)]
-fn add_exprs(found: &mut Items<Pos>, exprs: &[TypedExpr]) -> Result<(), NoMemory>
+fn add_exprs(found: &mut Items<Pos>, exprs: &[TypedExpr]) -> Result<(), Failure>
     ensures { OnOk result (found.new ≡ found.old ++ exprs_positions (exprs_of exprs.now)) }
 {
     for expr in exprs {
@@ -110,7 +111,7 @@ fn add_exprs(found: &mut Items<Pos>, exprs: &[TypedExpr]) -> Result<(), NoMemory
 
 #[tactic(auto, using(crate::proofs::PositionLists::places))]
 #[cycle(add_expr)]
-fn add_args(found: &mut Items<Pos>, args: &[TypedArg]) -> Result<(), NoMemory>
+fn add_args(found: &mut Items<Pos>, args: &[TypedArg]) -> Result<(), Failure>
     ensures { OnOk result (found.new ≡ found.old ++ args_positions (args_of args.now)) }
 {
     for arg in args {
@@ -121,7 +122,7 @@ fn add_args(found: &mut Items<Pos>, args: &[TypedArg]) -> Result<(), NoMemory>
 
 #[tactic(auto, using(crate::proofs::PositionLists::parts))]
 #[cycle(add_expr)]
-fn add_arg(found: &mut Items<Pos>, arg: &TypedArg) -> Result<(), NoMemory>
+fn add_arg(found: &mut Items<Pos>, arg: &TypedArg) -> Result<(), Failure>
     ensures { OnOk result (found.new ≡ found.old ++ arg_positions (arg_of arg.now)) }
 {
     match arg {
@@ -131,7 +132,7 @@ fn add_arg(found: &mut Items<Pos>, arg: &TypedArg) -> Result<(), NoMemory>
 }
 
 #[tactic(auto, using(crate::proofs::PositionLists::parts))]
-fn add_option_expr(found: &mut Items<Pos>, expr: &Option<TypedExpr>) -> Result<(), NoMemory>
+fn add_option_expr(found: &mut Items<Pos>, expr: &Option<TypedExpr>) -> Result<(), Failure>
     ensures { OnOk result (found.new ≡ found.old ++ option_expr_positions (option_expr_of expr.now)) }
 {
     match expr {
@@ -141,7 +142,7 @@ fn add_option_expr(found: &mut Items<Pos>, expr: &Option<TypedExpr>) -> Result<(
 }
 
 #[tactic(auto, using(crate::proofs::PositionLists::parts))]
-fn add_exit(found: &mut Items<Pos>, left: &LoopExit) -> Result<(), NoMemory>
+fn add_exit(found: &mut Items<Pos>, left: &LoopExit) -> Result<(), Failure>
     ensures { OnOk result (found.new ≡ found.old ++ exit_positions (exit_of left.now)) }
 {
     match left {
@@ -152,7 +153,7 @@ fn add_exit(found: &mut Items<Pos>, left: &LoopExit) -> Result<(), NoMemory>
 
 #[tactic(auto, using(crate::proofs::PositionLists::parts))]
 #[cycle(add_stmt)]
-fn add_stmt(found: &mut Items<Pos>, stmt: &TypedStmt) -> Result<(), NoMemory>
+fn add_stmt(found: &mut Items<Pos>, stmt: &TypedStmt) -> Result<(), Failure>
     ensures { OnOk result (found.new ≡ found.old ++ stmt_positions (stmt_of stmt.now)) }
 {
     match stmt {
@@ -191,7 +192,7 @@ fn add_stmt(found: &mut Items<Pos>, stmt: &TypedStmt) -> Result<(), NoMemory>
 
 #[tactic(auto, using(crate::proofs::PositionLists::places))]
 #[cycle(add_stmt)]
-fn add_stmts(found: &mut Items<Pos>, stmts: &[TypedStmt]) -> Result<(), NoMemory>
+fn add_stmts(found: &mut Items<Pos>, stmts: &[TypedStmt]) -> Result<(), Failure>
     ensures { OnOk result (found.new ≡ found.old ++ stmts_positions (block_of stmts.now)) }
 {
     for stmt in stmts {
@@ -202,7 +203,7 @@ fn add_stmts(found: &mut Items<Pos>, stmts: &[TypedStmt]) -> Result<(), NoMemory
 
 #[tactic(auto, using(crate::proofs::PositionLists::places))]
 #[cycle(add_stmt)]
-fn add_tests(found: &mut Items<Pos>, tests: &[TypedBranch]) -> Result<(), NoMemory>
+fn add_tests(found: &mut Items<Pos>, tests: &[TypedBranch]) -> Result<(), Failure>
     ensures { OnOk result (found.new ≡ found.old ++ tests_positions (tests_of tests.now)) }
 {
     for test in tests {
@@ -213,7 +214,7 @@ fn add_tests(found: &mut Items<Pos>, tests: &[TypedBranch]) -> Result<(), NoMemo
 
 #[tactic(auto, using(crate::proofs::PositionLists::parts))]
 #[cycle(add_stmt)]
-fn add_test(found: &mut Items<Pos>, test: &TypedBranch) -> Result<(), NoMemory>
+fn add_test(found: &mut Items<Pos>, test: &TypedBranch) -> Result<(), Failure>
     ensures { OnOk result (found.new ≡ found.old ++ (exprs_positions (test_of test.now).0 ++ stmts_positions (test_of test.now).1)) }
 {
     add_exprs(found, test.tests.as_slice())?;
@@ -222,7 +223,7 @@ fn add_test(found: &mut Items<Pos>, test: &TypedBranch) -> Result<(), NoMemory>
 
 #[tactic(auto, using(crate::proofs::PositionLists::places))]
 #[cycle(add_stmt)]
-fn add_arms(found: &mut Items<Pos>, arms: &[TypedArm]) -> Result<(), NoMemory>
+fn add_arms(found: &mut Items<Pos>, arms: &[TypedArm]) -> Result<(), Failure>
     ensures { OnOk result (found.new ≡ found.old ++ arms_positions (arms_of arms.now)) }
 {
     for arm in arms {
@@ -233,7 +234,7 @@ fn add_arms(found: &mut Items<Pos>, arms: &[TypedArm]) -> Result<(), NoMemory>
 
 #[tactic(auto, using(crate::proofs::PositionLists::parts))]
 #[cycle(add_stmt)]
-fn add_arm(found: &mut Items<Pos>, arm: &TypedArm) -> Result<(), NoMemory>
+fn add_arm(found: &mut Items<Pos>, arm: &TypedArm) -> Result<(), Failure>
     ensures { OnOk result (found.new ≡ found.old ++ stmts_positions (arm_of arm.now).2) }
 {
     add_stmts(found, arm.body.as_slice())

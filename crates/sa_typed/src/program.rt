@@ -3,11 +3,11 @@
 use crate::expr::TypedExpr;
 use crate::feature::{Target, TypedFeature};
 use sa_ast::{ClassKind, Ty};
-use sa_types::Sig;
+use sa_subst::Sig;
 use sqlite_items::Items;
 
-/// A type of the program: a needed instance or a bound type. The needed instances come first, in the order of their need;
-/// the bound types that a bind makes and that are written nowhere follow in the order of the binds.
+/// A type of the program: an instance that the program needs, or a bound type. The needed instances come first, in the order in which the
+/// need for them was found; bound types that a bind makes and that are written nowhere follow in the order of the binds.
 #[derive(Drop)]
 pub struct TypeDef {
     pub ty: Ty,
@@ -21,18 +21,18 @@ pub struct TypeDef {
     pub array: bool,
     /// The number of the elements' type, where the class can read or write elements.
     pub elem: Option<u32>,
-    /// The numbers of the other types that the type is below, rising.
+    /// The numbers of the proper supertypes of the type, in ascending order.
     pub above: Items<u32>,
 }
 
-/// A concrete type below the type of a signature, and what it gives for the signature.
+/// A concrete subtype of the type of a signature, and its implementation of the signature.
 #[derive(Clone, Copy, Debug, PartialEq, Eq, Hash)]
 pub struct TypedImplementation {
     pub ty: u32,
     pub target: Target,
 }
 
-/// A signature of an abstract type, with its implementations by rising number of their types.
+/// A signature of an abstract type, with its implementations in ascending order of their types' numbers.
 #[derive(Drop)]
 pub struct TypedSignature {
     pub ty: u32,
@@ -40,7 +40,7 @@ pub struct TypedSignature {
     pub impls: Items<TypedImplementation>,
 }
 
-/// A shared of a needed instance: its type, the number of the instance, and its initialiser.
+/// A shared of an instance that the program needs: its type, the number of the instance, and its initialiser.
 #[derive(Drop)]
 pub struct TypedShared {
     pub ty: u32,
@@ -48,8 +48,8 @@ pub struct TypedShared {
     pub start: Option<TypedExpr>,
 }
 
-/// A typed program. Features and shareds come by instance, in the order of the flattened features; signatures by abstract
-/// instance, in the order in which the type has them.
+/// A typed program. Features and shareds are ordered by instance, in the order of the flattened features; signatures by abstract instance,
+/// in the order in which the type has them.
 #[derive(Drop)]
 pub struct TypedProgram {
     pub types: Items<TypeDef>,
@@ -58,7 +58,7 @@ pub struct TypedProgram {
     pub shareds: Items<TypedShared>,
     /// The number of the feature that the program runs.
     pub main: u32,
-    /// The places of the line feeds in each text of the program, rising: a position is in the line that as many of them stand
-    /// before.
+    /// The line starts of each text of the program, by the positions of its line feeds, in ascending order: the line of a position is as
+    /// many lines after the first as there are line feeds before it.
     pub newlines: Items<Items<u32>>,
 }

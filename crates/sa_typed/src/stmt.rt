@@ -4,7 +4,7 @@ use crate::expr::TypedExpr;
 use sa_ast::{FaultKind, Pos};
 use sqlite_items::Items;
 
-/// Tests with the statements that are done where one of them is true.
+/// Tests, with the statements that are executed where one of them is true.
 #[cycle(stmt)]
 #[derive(Drop)]
 pub struct TypedBranch {
@@ -21,10 +21,10 @@ pub struct TypedArm {
     pub body: Items<TypedStmt>,
 }
 
-/// What leaves the innermost loop.
+/// What exits the innermost loop.
 #[derive(Drop)]
 pub enum LoopExit {
-    /// `break!`, which always leaves it.
+    /// `break!`, which always exits it.
     Break,
     /// `while!`, where its test is false.
     While(TypedExpr),
@@ -38,12 +38,12 @@ pub enum LoopExit {
 pub enum TypedStmt {
     Assign(u32, TypedExpr),
     ExprStmt(TypedExpr),
-    /// Does the statements of the first entry of which a test is true, else the last list.
+    /// Executes the statements of the first arm of which a test is true, else the last list.
     If(Items<TypedBranch>, Items<TypedStmt>),
     /// A loop by its number in the feature.
     Loop(u32, Items<TypedStmt>),
     ExitLoop(LoopExit),
-    /// Tests the class of a variable's value.
+    /// Branches on the class of a variable's value.
     TypeCase(u32, Items<TypedArm>, Option<Items<TypedStmt>>, Pos),
     Protect(Items<TypedStmt>, Items<TypedArm>, Option<Items<TypedStmt>>),
     Return(Option<TypedExpr>),

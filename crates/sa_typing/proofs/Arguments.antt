@@ -1,4 +1,4 @@
--- Whether arguments and elements fit, from a place on.
+-- Whether arguments and elements fit, from an index on.
 use Rattle.std.proofs.Common.{◌≡◌, ℕ, ◌+◌, ◌<◌, ◌&&◌, cond, List, length, get_or, drop, ap, add-one, drop-cons}
 use Rattle.std.proofs.Math.Seq.{drop-length}
 use Rattle.sa_typed.specs.declared.expr.TypedArg.{TypedArg}

@@ -1,4 +1,4 @@
--- Whether statements, tests and branches are well typed, from a place on.
+-- Whether statements, tests and branches are well typed, from an index on.
 use Rattle.std.proofs.Common.{◌≡◌, ℕ, ◌+◌, ◌<◌, ◌&&◌, Bool, true, false, List, Some, length, get_or, drop, refl, sym, ap, ◌∙◌, add-one, drop-cons}
 use Rattle.std.proofs.Math.Seq.{drop-length}
 use Rattle.sa_typed.specs.declared.expr.TypedExpr.{TypedExpr}

@@ -1,4 +1,4 @@
--- Counts of elements up to a place.
+-- Counts of elements up to an index.
 use Rattle.std.proofs.Common.{◌≡◌, ℕ, ◌+◌, ◌<◌, Bool, true, false, List, length, get_or, take, sym, ap, ◌∙◌}
 use Rattle.std.proofs.lemmas.List.Sums.{count_by_more_no, count_by_more_yes}
 use Rattle.std.specs.Prelude.{count_by}

@@ -1,4 +1,4 @@
--- The edges of immutable classes, from a place on.
+-- The edges of immutable classes, from an index on.
 use Rattle.std.proofs.Common.{◌≡◌, ℕ, ◌+◌, ◌<◌, ◌≤◌, ◌++◌, Bool, true, false, List, [], ◌∷◌, cond, length, get_or, drop, refl, sym, ap, ◌∙◌, add-one, drop-cons, append_assoc, append-nil, replicate, filter}
 use Rattle.std.proofs.Math.ListN.{drop_of_length-le}
 use Rattle.std.proofs.Common.{◌↔◌, subst, true≢false}
@@ -17,7 +17,7 @@ module _ (test : ℕ → Bool) where
   pub filter-left : (xs : List ℕ) (i x : ℕ) → i < length xs → x ≡ get_or xs i x → test x ≡ false → filter test (drop i xs) ≡ filter test (drop (i + 1) xs)
   filter-left xs i x h e is = let step : filter test (drop i xs) ≡ cond (test x) (x ∷ filter test (drop (i + 1) xs)) (filter test (drop (i + 1) xs)) = rw (add-one, drop-cons xs i x, ← e) in step ∙ ap (λ (b : Bool). cond b (x ∷ filter test (drop (i + 1) xs)) (filter test (drop (i + 1) xs))) is
 
-  -- one more edge behind those so far
+  -- one more edge after those so far
   pub kept-start : (front : List ℕ) (n : ℕ) (xs : List ℕ) (i x : ℕ) → i < length xs → x ≡ get_or xs i x → test x ≡ true → front ++ replicate (length (filter test (drop i xs))) n ≡ (front ++ n ∷ []) ++ replicate (length (filter test (drop (i + 1) xs))) n
   kept-start front n xs i x h e is =
       ap (λ (ys : List ℕ). front ++ replicate (length ys) n) (filter-kept xs i x h e is)
@@ -41,7 +41,7 @@ module _ (w : Rows) where
   pub ends_from-drop : (xs : List TypeDef) (i : ℕ) (x : TypeDef) → i < length xs → x ≡ get_or xs i x → ends_from w (drop i xs) ≡ held w x ++ ends_from w (drop (i + 1) xs)
   ends_from-drop xs i x h e = rw (add-one, drop-cons xs i x, ← e)
 
-  -- the edges of one more class behind those so far: an immutable one, another one, and none
+  -- the edges of one more class after those so far: an immutable one, another one, and none
   pub starts-kept : (front : List ℕ) (xs : List TypeDef) (i : ℕ) (x : TypeDef) → i < length xs → x ≡ get_or xs i x → is_immutable_kind x.kind ≡ true → front ++ starts_from w i (drop i xs) ≡ (front ++ replicate (length (filter (is_immutable w) x.attrs)) i) ++ starts_from w (i + 1) (drop (i + 1) xs)
   starts-kept front xs i x h e is =
       ap (λ (ys : List ℕ). front ++ ys) (starts_from-drop xs i x h e)

@@ -1,4 +1,4 @@
--- Lists from a place on.
+-- Lists from an index on.
 use Rattle.std.proofs.Common.{◌≡◌, ℕ, ◌+◌, ◌<◌, ◌≤◌, ◌&&◌, ◌||◌, ◌==◌, Bool, true, false, cond, List, [], ◌∷◌, Option, Some, length, get_or, drop, nat_eq, nat_lt, refl, sym, ap, arith, ◌-◌, ◌∙◌, add-one, drop-cons, append_assoc}
 use Rattle.std.proofs.Math.ListN.{drop_of_length-le}
 use Rattle.std.proofs.Math.Seq.{drop-length}

@@ -1,4 +1,4 @@
--- The numbers of types, filled from the last type on; shapes and parameters, from a place on.
+-- The numbers of types, filled from the last type on; call types and parameters, from an index on.
 use Rattle.std.proofs.Common.{◌≡◌, ◌≢◌, ◌↔◌, true≢false, ℕ, ◌+◌, ◌<◌, ◌≤◌, ◌++◌, ◌&&◌, Bool, List, [], ◌∷◌, Option, None, Some, cond, nat_eq, length, get_or, drop, map, refl, sym, ap, ◌∙◌, add-one, drop-cons, suc, arith, append_assoc}
 use Rattle.std.proofs.Math.Dec.{eqb-suc-zero}
 use Rattle.std.proofs.Math.ListN.{drop_of_length-le}
@@ -17,7 +17,7 @@ use Rattle.sa_typing.specs.declared.expr_type.ParamType.{ParamType}
 use Rattle.sa_typing.proofs.Listed.{drop-step}
 use Rattle.sa_typing.specs.CallTypes.{HasNumbers, characters_in, is_char, is_char_alone, is_char_array, number_in, number_of, parameters_of}
 
--- one more type in front, which is put into the table
+-- one more type at the front, which is put into the table
 pub has_numbers-more : {S : Type 0} (table more : HashMap Ty ℕ S) (types : List TypeDef) (i : ℕ) (t : TypeDef) → i < length types → t ≡ get_or types i t → HasNumbers table types (i + 1) → ((ty : Ty) → get (on bare same_type) more ty ≡ cond (on bare same_type t.ty ty) (Some i) (get (on bare same_type) table ty)) → HasNumbers more types i
 has_numbers-more table more types i t h e known put ty =
     put ty ∙ ap (cond (on bare same_type t.ty ty) (Some i)) (known ty) ∙ sym (first ty)
@@ -27,12 +27,12 @@ has_numbers-more table more types i t h e known put ty =
         let same : i + 1 ≡ suc i = omega arith in
         rw (add-one, drop-cons types i t h, ← e) (ap (λ k. cond (on bare same_type t.ty ty) (Some i) (number_in (drop (suc i) types) k (bare ty))) same)
 
--- the parameters so far, and those of the other arguments
+-- the parameters so far, and those of the remaining arguments
 abbrev pub with_front : List ParamType → Option (List ParamType) → Option (List ParamType)
 with_front front None = None
 with_front front (Some more) = Some (front ++ more)
 
--- one more parameter behind those so far
+-- one more parameter after those so far
 pub with_front-more : (front : List ParamType) (p : ParamType) (more : Option (List ParamType)) → with_front front (option_map (λ rest. p ∷ rest) more) ≡ with_front (front ++ p ∷ []) more
 with_front-more front p None = refl
 with_front-more front p (Some more) = ap Some (sym (append_assoc front (p ∷ []) more))

@@ -1,4 +1,4 @@
--- The parts of a well-typed tree, put together.
+-- The parts of a well-typed program, put together.
 use Rattle.std.proofs.Common.{◌≡◌, ◌↔◌, ◌&&◌, ℕ, Bool, true, false, true≢false, List, length, Result, IfOk, subst, sym, ap, ◌∙◌}
 use Rattle.std.specs.Prelude.{IsTrue}
 use Rattle.std.specs.List.{list_all}
@@ -18,7 +18,7 @@ use Rattle.sa_typing.specs.Signatures.{well_signatures}
 use Rattle.sa_typing.specs.Features.{feature_env, has_well_header, well_feature, well_main, well_shared}
 use Rattle.sa_typing.specs.WellTyped.{AreWellTyped, IsWellTyped, rows_of}
 
--- the body of a feature, in a scope and at a place that are the feature's and outside
+-- the body of a feature, in the feature's environment and in the outermost context
 module _ (w : Rows) (f : TypedFeature) (scope : Env) (at : TypingContext) (body : List TypedStmt) (is_scope : scope ≡ feature_env w f) (is_at : at ≡ outside) (is_body : body ≡ f.body) (shaped : true ≡ has_well_header w f) where
   same_body : well_stmts scope at (block_of body) ≡ well_stmts (feature_env w f) outside (block_of f.body)
   same_body =
@@ -26,7 +26,7 @@ module _ (w : Rows) (f : TypedFeature) (scope : Env) (at : TypingContext) (body 
       ∙ ap (λ (p : TypingContext). well_stmts (feature_env w f) p (block_of body)) is_at
       ∙ ap (λ (list : List TypedStmt). well_stmts (feature_env w f) outside (block_of list)) is_body
 
-  -- what stands behind the shape of the feature decides, and what stands behind its statements where these are well typed
+  -- what follows the header of the feature decides, and what follows its statements where these are well typed
   by_body : well_feature w f ≡ (well_stmts scope at (block_of body) && agree_on_types (length f.sites) (stmts_sites (feature_env w f) outside (block_of f.body)))
   by_body =
       ap (λ (b : Bool). b && (well_stmts (feature_env w f) outside (block_of f.body) && agree_on_types (length f.sites) (stmts_sites (feature_env w f) outside (block_of f.body)))) (sym shaped)
@@ -44,7 +44,7 @@ module _ (w : Rows) (f : TypedFeature) (scope : Env) (at : TypingContext) (body 
       ∙ ap (λ (list : List TypedStmt). agree_on_types (length f.sites) (stmts_sites (feature_env w f) outside (block_of list))) is_again
       ∙ sym (by_body ∙ ap (λ (b : Bool). b && agree_on_types (length f.sites) (stmts_sites (feature_env w f) outside (block_of f.body))) (sym goes)))
 
--- one part that isn't well is enough
+-- one part that isn't well typed is enough
 module _ (w : Rows) (main : ℕ) (r : Bool) (fails : r ≡ false) where
   pub not-given : r ≡ well_base_types w → IsTrue false ↔ AreWellTyped w main
   not-given is = (λ no. absurd (true≢false (sym no)), λ a. absurd (true≢false (sym a.given ∙ sym is ∙ fails)))
@@ -64,12 +64,12 @@ module _ (w : Rows) (main : ℕ) (r : Bool) (fails : r ≡ false) where
   pub not-features : r ≡ list_all (well_feature w) w.features → IsTrue false ↔ AreWellTyped w main
   not-features is = (λ no. absurd (true≢false (sym no)), λ a. absurd (true≢false (sym a.features ∙ sym is ∙ fails)))
 
--- where all others are well, the last one decides
+-- where all others are well typed, the last one decides
 pub all-but : (w : Rows) (main : ℕ) (given types flat signatures shareds features runs : Bool) → given ≡ well_base_types w → given ≡ true → types ≡ well_types w 0 w.types → types ≡ true → IsTrue flat ↔ IsAcyclic w → flat ≡ true → signatures ≡ well_signatures w 0 w.signatures → signatures ≡ true → shareds ≡ list_all (well_shared w) w.shareds → shareds ≡ true → features ≡ list_all (well_feature w) w.features → features ≡ true → runs ≡ well_main w main → IsTrue runs ↔ AreWellTyped w main
 all-but w main given types flat signatures shareds features runs is-given given-is is-types types-is is-flat flat-is is-signatures signatures-is is-shareds shareds-is is-features features-is is-main =
     (λ main-is. record { given = sym is-given ∙ given-is; types = sym is-types ∙ types-is; flat = is-flat.0 flat-is; signatures = sym is-signatures ∙ signatures-is; shareds = sym is-shareds ∙ shareds-is; features = sym is-features ∙ features-is; main = sym is-main ∙ main-is }, λ a. is-main ∙ a.main)
 
--- a view that has the rows of a tree
+-- a view that has the tables of a program
 pub by-rows : {E : Type 0} (r : Result Bool E) (w : Rows) (core : TypedProgram) → w ≡ rows_of core → IfOk r (λ well. IsTrue well ↔ AreWellTyped w core.main) → IfOk r (λ well. IsTrue well ↔ IsWellTyped core)
 by-rows r w core same found = subst (λ (v : Rows). IfOk r (λ well. IsTrue well ↔ AreWellTyped v core.main)) same found
 

@@ -1,4 +1,4 @@
--- The calls of bound values in lists, from a place on.
+-- The calls of bound values in lists, from an index on.
 use Rattle.std.proofs.Common.{◌≡◌, ℕ, ◌+◌, ◌<◌, ◌≤◌, List, ◌++◌, Option, Some, length, get_or, drop, ap, sym, ◌∙◌, add-one, drop-cons, append_assoc, ◌&&◌, Bool, true, false}
 use Rattle.std.proofs.Math.Seq.{drop-length}
 use Rattle.std.proofs.lemmas.List.{append-nil}

@@ -1,4 +1,4 @@
--- What a bind may call, and of which bound type its value is.
+-- What a bind may call, and which bound type its value has.
 use Rattle.std.specs.Prelude.{Bool, true, false, ◌&&◌, Option, Some}
 use Rattle.sa_typed.specs.declared.feature.TypedCallee.{TypedCallee}
 use Rattle.sa_typed.specs.declared.feature.TypedCallee.TheVariants as called
@@ -14,7 +14,7 @@ abbrev pub is_bindable : TypedCallee → Bool
 is_bindable called.Bound = false
 is_bindable _ = true
 
--- a bound type is one of an iter where what is bound is, and gives the same
+-- a bound type is one of an iter exactly where the callee is an iter, and has the same result
 abbrev pub is_bound_alike : Rows → CallType → ResolvedCallee → Bool
 is_bound_alike w shape r = agree shape.iter (is_iter w r) && same_type shape.result (result_type w r)
 

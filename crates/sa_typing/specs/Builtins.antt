@@ -1,4 +1,4 @@
--- What the built-in features take and give.
+-- The parameters and results of the built-in features.
 use Rattle.std.specs.Prelude.{ℕ, Bool, true, false, ◌&&◌, ◌==◌, Option, Some, None, is_some}
 use Rattle.std.specs.Option.{option_map_or}
 use Rattle.sa_prelude.specs.declared.feature.BuiltinFeature.{BuiltinFeature}
@@ -9,7 +9,7 @@ use Rattle.sa_prelude.specs.declared.feature.BuiltinFeature.TheVariants.{StrCat,
 use Rattle.sa_prelude.specs.declared.feature.BuiltinFeature.TheVariants.{InGetByte, SysObEq, ArefAsize, ArefAget, ArefAset, ArrayCreate}
 use Rattle.sa_typing.specs.Rows.{Rows, has_array, element_of}
 
--- ---- types whose numbers are the same in each program
+-- ---- types that have the same numbers in each program
 
 abbrev pub ob_type : ℕ
 ob_type = 0
@@ -66,7 +66,7 @@ is_of w class ArefAget = has_array w class && is_some (element_of w class)
 is_of w class ArefAset = has_array w class && is_some (element_of w class)
 is_of w class _ = true
 
--- ---- the types of the arguments and of the result
+-- ---- the types of the parameters and of the result
 
 abbrev pub first_type : Rows → BuiltinFeature → Option ℕ
 first_type w BoolNot = None

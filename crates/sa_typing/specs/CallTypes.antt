@@ -1,4 +1,4 @@
--- What calls of bound values and of signatures take and give, in types by their numbers.
+-- The call types of bound values and of signatures, with types given by their numbers.
 use Rattle.std.specs.Prelude.{ℕ, ◌+◌, Bool, true, false, ◌&&◌, cond, List, [], ◌∷◌, Option, Some, None}
 use Rattle.std.specs.Prelude.{bytes_eq, codes, drop, if◌then◌else◌, nat_eq, option_map, option_and_then, ◌≡◌}
 use Rattle.std.specs.HashMap.{HashMap, get}
@@ -54,7 +54,7 @@ abbrev pub characters_in : ℕ → List TypeDef → Option ℕ
 characters_in n [] = None
 characters_in n (t ∷ more) = if is_char_array (bare t.ty) then Some n else characters_in (n + 1) more
 
--- ---- shapes
+-- ---- call types
 
 -- of these parameters and this result, where there are both
 abbrev pub call_type_with : Bool → Option (List ParamType) → Option (Option ℕ) → Option CallType

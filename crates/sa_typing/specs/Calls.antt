@@ -1,4 +1,4 @@
--- What a call reaches by the type of its receiver, and what that takes and gives.
+-- The callee of a call, by the type of its receiver, and the callee's parameters and result.
 use Rattle.std.specs.Prelude.{ℕ, Bool, false, ◌&&◌, if◌then◌else◌, length, slice_get, Option, Some, None}
 use Rattle.std.specs.Prelude.{is_some, option_map, option_and_then}
 use Rattle.std.specs.Option.{option_map_or}
@@ -23,7 +23,7 @@ module _ (w : Rows) where
   bound_by (Of ty) = if is_some (call_type_at w.bound ty) then Some (reach.Bound ty) else None
   bound_by _ = None
 
-  -- what a call reaches on what its receiver gives, where this is of the type of which it is called
+  -- the callee of a call on this receiver, where the receiver is of the type on which it is called
   abbrev pub reached : TypedCallee → ExprType → Option ResolvedCallee
   reached (called.Static target class) on =
       if is_plain class on && is_some (target_arity w class target) then Some (reach.Target target class) else None
@@ -40,7 +40,7 @@ module _ (w : Rows) where
   parameter (reach.Signature k) place = option_and_then (λ s. slice_get s.params place) (call_type_at w.shapes k)
   parameter (reach.Bound ty) place = option_and_then (λ s. slice_get s.params place) (call_type_at w.bound ty)
 
-  -- the type of what it gives, if it gives something
+  -- the type of its result, if it has one
   abbrev pub result_type : ResolvedCallee → Option ℕ
   result_type (reach.Target target class) = target_result w class target
   result_type (reach.Signature k) = option_and_then (λ s. s.result) (call_type_at w.shapes k)

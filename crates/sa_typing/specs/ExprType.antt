@@ -1,4 +1,4 @@
--- What expressions give, and which values go to which types.
+-- The types of expressions, and which values are assignable to which types.
 use Rattle.std.specs.Prelude.{ℕ, Bool, true, false, ◌&&◌, ◌||◌, not, ◌==◌, if◌then◌else◌, Option, Some, None}
 use Rattle.sa_ast.specs.TypeEquality.{same_mode}
 use Rattle.sa_typing.specs.declared.expr_type.ExprType.{ExprType}
@@ -6,7 +6,7 @@ use Rattle.sa_typing.specs.declared.expr_type.ExprType.TheVariants.{NoValue, Of,
 use Rattle.sa_typing.specs.declared.expr_type.ParamType.{ParamType}
 use Rattle.sa_typing.specs.Rows.{Rows, is_immutable, is_strict_supertype}
 
--- a value of this type, which isn't widened
+-- a value of this type, which isn't boxed
 abbrev pub is_plain : ℕ → ExprType → Bool
 is_plain ty (Of own) = own == ty
 is_plain ty _ = false
@@ -38,8 +38,8 @@ is_just n None = false
 abbrev pub agree : Bool → Bool → Bool
 agree a b = if a then b else not b
 
--- What may stand where a type is wanted: a value of this type or of one below it. One of an immutable class is widened where an
--- abstract type is wanted, and only there.
+-- What is assignable to a type: a value of this type or of a subtype. A value of an immutable class is boxed where an abstract type is
+-- expected, and only there.
 abbrev pub is_assignable : Rows → ExprType → ℕ → Bool
 is_assignable w NoValue ty = false
 is_assignable w (Of own) ty = own == ty || (not (is_immutable w own) && is_strict_supertype w ty own)

@@ -26,7 +26,7 @@ is_open _ = false
 
 module _ (f : Env) where
   abbrev mutual
-    -- what an expression gives, where it is well typed at its place
+    -- the type of an expression, where it is well typed in its context
     pub type_of_expr : TypingContext → Expr → Option ExprType
     type_of_expr at (tree.Int z) = Some (Of int_type)
     type_of_expr at (tree.Truth b) = Some (Of bool_type)
@@ -58,7 +58,7 @@ module _ (f : Env) where
         option_and_then (λ a. option_and_then (λ b. type_of_connective a b) (type_of_expr at second)) (type_of_expr at first)
     type_of_expr at (Box ty of pos) = option_and_then (type_of_boxed f.rows ty) (type_of_expr at of)
 
-    -- the arguments of a call from a place on: each is taken by its parameter, and there are no more parameters
+    -- the arguments of a call from an index on: each is taken by its parameter, and there are no more parameters
     pub args_fit : TypingContext → ResolvedCallee → ℕ → Args → Bool
     args_fit at r place no_args = is_just place (arity f.rows r)
     args_fit at r place (arg a more) = arg_fits at (parameter f.rows r place) a && args_fit at r (place + 1) more
@@ -68,7 +68,7 @@ module _ (f : Env) where
     arg_fits at p (Variable mode var) = variable_fits f p mode var
     arg_fits at p Open = false
 
-    -- The arguments of a bind from a place on. Those that are left open are the parameters of the bound value, from a place on.
+    -- The arguments of a bind from an index on. Those that are left open are the parameters of the bound value, from an index on.
     pub bound_args_fit : TypingContext → ResolvedCallee → ResolvedCallee → ℕ → ℕ → Args → Bool
     bound_args_fit at r bound place next no_args = is_just place (arity f.rows r) && is_just next (arity f.rows bound)
     bound_args_fit at r bound place next (arg a more) =
@@ -80,11 +80,11 @@ module _ (f : Env) where
     bound_arg_fits at p next (Variable mode var) = false
     bound_arg_fits at p next Open = is_open_alike p next
 
-    -- each of these expressions may stand where the type is wanted
+    -- each of these expressions is assignable to the type
     pub are_assignable : TypingContext → ℕ → Exprs → Bool
     are_assignable at ty no_exprs = true
     are_assignable at ty (expr e more) = is_assignable_type f.rows ty (type_of_expr at e) && are_assignable at ty more
 
-  -- an expression may stand where the type is wanted
+  -- an expression is assignable to the type
   abbrev pub is_assignable_expr : TypingContext → ℕ → Expr → Bool
   is_assignable_expr at ty e = is_assignable_type f.rows ty (type_of_expr at e)

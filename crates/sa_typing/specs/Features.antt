@@ -34,7 +34,7 @@ is_concrete_class w ty = of_type w (λ t. not (is_abstract_kind t.kind) && is_no
 abbrev pub feature_env : Rows → TypedFeature → Env
 feature_env w f = record { rows = w; class = f.class; vars = f.vars; sites = f.sites; iter = f.iter; gives = f.result }
 
--- its types are types of the program, its class is a concrete one, and its arguments are variables
+-- its types are types of the program, its class is a concrete one, and its parameters are variables
 abbrev pub has_types : Rows → TypedFeature → Bool
 has_types w f =
     is_concrete_class w f.class
@@ -45,7 +45,7 @@ is_out mode.Out = true
 is_out mode.Inout = true
 is_out _ = false
 
--- no more variables and no more `out` arguments than it may have
+-- no more variables and no more `out` parameters than it may have
 abbrev pub within_limits : TypedFeature → Bool
 within_limits f = nat_le (length f.vars) 200 && nat_le (count_by is_out f.modes) 16
 
@@ -53,11 +53,11 @@ abbrev pub is_stop : Stmt → Bool
 is_stop (Fault kind pos) = true
 is_stop _ = false
 
--- the last statement is a stop
+-- the last statement is a fault
 abbrev pub ends_in_stop : List TypedStmt → Bool
 ends_in_stop body = option_map_or (λ s. is_stop (stmt_of s)) (slice_get body (length body - 1)) false
 
--- a routine with a result never comes to its end
+-- execution never reaches the end of a routine with a result
 abbrev pub ends_well : TypedFeature → Bool
 ends_well f = f.iter || (is_none f.result || ends_in_stop f.body)
 

@@ -1,4 +1,4 @@
--- What the forms of expressions give, by what stands inside them.
+-- The types of the forms of expressions, by the types of their operands.
 use Rattle.std.specs.Prelude.{ℕ, Bool, false, ◌&&◌, not, if◌then◌else◌, slice_get, Option, Some, None, option_map, option_and_then}
 use Rattle.std.specs.Option.{option_map_or}
 use Rattle.sa_ast.specs.declared.ty.Mode.{Mode}
@@ -43,7 +43,7 @@ type_of_test of = plain_if bool_type (is_value of)
 abbrev pub type_of_object : Rows → ℕ → Option ExprType
 type_of_object w ty = plain_if ty (has_objects w ty && not (has_array w ty))
 
--- by what the length gives
+-- by the type of the length
 abbrev pub type_of_array : Rows → ℕ → ExprType → Option ExprType
 type_of_array w ty size = plain_if ty (is_plain int_type size && (has_objects w ty && has_array w ty))
 
@@ -52,7 +52,7 @@ elements_type w ty = if has_objects w ty && has_array w ty then element_of w ty 
 
 -- ---- calls
 
--- what a call reaches that is one of an iter, or isn't
+-- the callee of a call, where it is an iter, or where it isn't
 abbrev pub callee_of_call : Rows → TypedCallee → ExprType → Bool → Option ResolvedCallee
 callee_of_call w called on iter = option_and_then (λ r. if agree (is_iter w r) iter then Some r else None) (reached w called on)
 
@@ -63,11 +63,11 @@ called_in at s = if is_in_loop s.owner at then Some s.called else None
 abbrev pub site_called : Env → TypingContext → ℕ → Option TypedCallee
 site_called f at site = option_and_then (called_in at) (slice_get f.sites site)
 
--- what a call gives, where its arguments fit
+-- the type of a call, where its arguments fit
 abbrev pub result_if : Rows → ResolvedCallee → Bool → Option ExprType
 result_if w r fits = if fits then Some (result_of (result_type w r)) else None
 
--- a parameter takes what an expression gives
+-- a parameter takes an expression of this type
 abbrev pub value_fits : Rows → Option ParamType → Mode → Option ExprType → Bool
 value_fits w (Some p) mode (Some given) = takes_value w p mode given
 value_fits w _ mode _ = false
@@ -82,7 +82,7 @@ variable_fits f p mode var = type_fits f.rows p mode (slice_get f.vars var)
 
 -- ---- binds
 
--- a bound type is that of what is bound, but for its parameters
+-- a bound type is that of the callee, but for its parameters
 abbrev pub has_bound_type : Rows → ℕ → ResolvedCallee → Bool
 has_bound_type w ty r = option_map_or (λ shape. is_bound_alike w shape r) (call_type_at w.bound ty) false
 
@@ -96,7 +96,7 @@ callee_of_bind w called on ty =
 abbrev pub takes_first : Rows → Option ParamType → ExprType → Bool
 takes_first w p given = option_map_or (λ param. takes_value w param param.mode given) p false
 
--- a target of the class is a routine that takes one argument, which is given, and gives a BOOL
+-- a target of the class is a routine that takes one argument, of this type, and gives a BOOL
 abbrev pub is_comparison : Rows → ℕ → Target → ExprType → Bool
 is_comparison w class target given =
     is_just 1 (target_arity w class target)
@@ -114,7 +114,7 @@ type_of_connective first second = plain_if bool_type (is_plain bool_type first &
 abbrev pub type_of_boxed : Rows → ℕ → ExprType → Option ExprType
 type_of_boxed w ty of = if is_plain ty of && is_immutable w ty then Some (BoxedOf ty) else None
 
--- ---- what is wanted of an expression
+-- ---- what is expected of an expression
 
 abbrev pub is_assignable_type : Rows → ℕ → Option ExprType → Bool
 is_assignable_type w ty given = option_map_or (λ g. is_assignable w g ty) given false

@@ -14,11 +14,11 @@ is_value_mode mode.In = true
 is_value_mode mode.Once = true
 is_value_mode _ = false
 
--- a value that is handed over by this mode
+-- a value that is passed by this mode
 abbrev pub takes_value : Rows → ParamType → Mode → ExprType → Bool
 takes_value w p m given = same_mode p.mode m && (is_value_mode m && is_assignable w given p.ty)
 
--- an `out` variable may be of a type above, and an `inout` variable is of the same type
+-- an `out` variable may be of a supertype, and an `inout` variable is of the same type
 abbrev pub is_assignable_back : Rows → ℕ → Mode → ℕ → Bool
 is_assignable_back w ty mode.Out variable = is_supertype w variable ty
 is_assignable_back w ty mode.Inout variable = variable == ty

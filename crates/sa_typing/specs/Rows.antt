@@ -1,5 +1,5 @@
--- The rows of a typed tree: its types, features, shareds and signatures by their numbers, and what calls of bound values and of
--- signatures take and give.
+-- The tables of a program: its types, features, shareds and signatures by their numbers, and the call types of bound values and of
+-- signatures.
 use Rattle.std.specs.Prelude.{ℕ, Bool, true, false, ◌&&◌, ◌||◌, not, ◌==◌, nat_eq, List, slice_get, Option, None}
 use Rattle.std.specs.Prelude.{is_some, option_and_then}
 use Rattle.std.specs.List.{list_any}
@@ -18,7 +18,7 @@ pub record Rows : Type 0 where
   pub features : List TypedFeature
   pub shareds : List TypedShared
   pub signatures : List TypedSignature
-  -- by type, where it is a bound type: what a call of its values takes and gives
+  -- by type, where it is a bound type: the call type of its values
   pub bound : List (Option CallType)
   -- by signature
   pub shapes : List (Option CallType)
@@ -38,7 +38,7 @@ rows v = record {
 
 -- ---- types by their numbers
 
--- what a type shows, or else something other
+-- what a type has, or a default where there is no such type
 abbrev pub of_type : {A : Type 0} → Rows → (TypeDef → A) → A → ℕ → A
 of_type w see other ty = option_map_or see (slice_get w.types ty) other
 
@@ -66,7 +66,7 @@ is_immutable w = of_type w (λ t. is_immutable_kind t.kind) false
 abbrev pub is_reference : Rows → ℕ → Bool
 is_reference w = of_type w (λ t. is_reference_kind t.kind) false
 
--- the shape at a place, where there is one
+-- the call type at an index, where there is one
 abbrev pub call_type_at : List (Option CallType) → ℕ → Option CallType
 call_type_at list place = option_and_then (λ shape. shape) (slice_get list place)
 
@@ -86,14 +86,14 @@ element_of w = of_type w (λ t. t.elem) None
 abbrev pub attribute : Rows → ℕ → ℕ → Option ℕ
 attribute w ty place = of_type w (λ t. slice_get t.attrs place) None ty
 
--- a type is one of those that another is below
+-- a type is one of the proper supertypes of another
 unfoldable pub has_supertype : ℕ → TypeDef → Bool
 has_supertype ty t = list_any (nat_eq ty) t.above
 
--- the first type is one of those that the other is below
+-- the first type is one of the proper supertypes of the other
 abbrev pub is_strict_supertype : Rows → ℕ → ℕ → Bool
 is_strict_supertype w ty other = of_type w (has_supertype ty) false other
 
--- the first type is the other one, or above it
+-- the first type is the other one, or a supertype of it
 abbrev pub is_supertype : Rows → ℕ → ℕ → Bool
 is_supertype w ty other = ty == other || is_strict_supertype w ty other

@@ -1,4 +1,4 @@
--- Which signatures of abstract types have their implementations: one of each concrete type below.
+-- Which signatures of abstract types have their implementations: one for each concrete subtype.
 use Rattle.std.specs.Prelude.{◌≡◌, ℕ, ◌+◌, Bool, true, false, ◌&&◌, not, ◌==◌, List, [], ◌∷◌, length, count_by, Option, Some, None}
 use Rattle.std.specs.Option.{option_map_or}
 use Rattle.sa_ast.specs.declared.ty.Mode.{Mode}
@@ -16,22 +16,22 @@ use Rattle.sa_typing.specs.Targets.{is_target_iter, target_arity, target_paramet
 use Rattle.sa_typing.specs.Features.{is_concrete_class}
 use Rattle.sa_typing.specs.Types.{is_after}
 
--- ---- how many concrete types are below a type
+-- ---- how many concrete subtypes a type has
 
--- a type is concrete and below another
+-- a type is a concrete subtype of another
 abbrev pub is_lower : ℕ → TypeDef → Bool
 is_lower ty t = not (is_abstract_kind t.kind) && has_supertype ty t
 
 abbrev pub lower_count : Rows → ℕ → ℕ
 lower_count w ty = count_by (is_lower ty) w.types
 
--- so many are below the type
+-- the type has this many
 abbrev pub IsCount : Rows → Lowers → Type 0
 IsCount w l = l.count ≡ lower_count w l.ty
 
 -- ---- implementations
 
--- they stand by rising numbers of their types
+-- they come in ascending order of the numbers of their types
 abbrev pub rise_from : Option ℕ → List TypedImplementation → Bool
 rise_from last [] = true
 rise_from last (i ∷ more) = is_after last i.ty && rise_from (Some i.ty) more
@@ -47,7 +47,7 @@ module _ (w : Rows) where
   abbrev pub param_conforms : ParamType → Option ParamType → Bool
   param_conforms p own = option_map_or (λ o. same_mode o.mode p.mode && type_conforms p.mode p.ty o.ty) own false
 
-  -- parameters from a place on
+  -- parameters from an index on
   abbrev pub params_conform : TypedImplementation → ℕ → List ParamType → Bool
   params_conform i place [] = true
   params_conform i place (p ∷ more) = param_conforms p (target_parameter w i.ty i.target place) && params_conform i (place + 1) more
@@ -57,7 +57,7 @@ module _ (w : Rows) where
   result_conforms None None = true
   result_conforms _ _ = false
 
-  -- what a concrete class below an abstract type gives for a signature of it takes what this takes, and gives what it gives
+  -- the implementation by a concrete class of a signature of an abstract supertype takes what the signature takes, and gives what it gives
   abbrev pub is_implementation : CallType → ℕ → TypedImplementation → Bool
   is_implementation shape upper i =
       is_concrete_class w i.ty
@@ -74,7 +74,7 @@ module _ (w : Rows) where
   abbrev pub are_implementations : Option CallType → TypedSignature → Bool
   are_implementations shape s = option_map_or (λ sh. all_implement sh s.ty s.impls) shape false
 
-  -- a signature of an abstract type has as many implementations as there are concrete types below, each of one of them
+  -- a signature of an abstract type has as many implementations as the type has concrete subtypes, each by one of them
   abbrev pub well_signature : ℕ → TypedSignature → Bool
   well_signature k s =
       is_abstract w s.ty

@@ -1,5 +1,5 @@
--- The sites at which bound iters are called, each with the bound type of its receiver. An instance stays at its site from call to
--- call, so that all calls at a site have to be of one type. (A site has several calls where an initialiser stands for several names.)
+-- The sites at which bound iters are called, each with the bound type of its receiver. An instance stays at its site from call to call, so
+-- that all calls at a site have to be of one type. (A site has several calls where one initialiser is written for several names.)
 use Rattle.std.specs.Prelude.{ℕ, Bool, true, false, ◌&&◌, ◌==◌, List, [], ◌∷◌, ◌++◌, replicate, set, slice_get, Option, Some, None}
 use Rattle.std.specs.Option.{option_map_or}
 use Rattle.sa_typed.specs.declared.feature.TypedCallee.{TypedCallee}
@@ -111,12 +111,12 @@ abbrev pub is_known_as : ℕ → Option ℕ → Bool
 is_known_as ty None = true
 is_known_as ty (Some known) = known == ty
 
--- by site what is known, and further calls
+-- what is known by site, and further calls
 abbrev pub agree_with : List (Option ℕ) → List (ℕ × ℕ) → Bool
 agree_with known [] = true
 agree_with known (s ∷ more) =
     option_map_or (is_known_as s.1) (slice_get known s.0) false && agree_with (set known s.0 (Some s.1)) more
 
--- all calls at a site are of one type, where there are so many sites
+-- all calls at a site are of one type, where there are this many sites
 abbrev pub agree_on_types : ℕ → List (ℕ × ℕ) → Bool
 agree_on_types sites calls = agree_with (replicate sites None) calls

@@ -13,7 +13,7 @@ use Rattle.sa_typing.specs.Forms.{is_test}
 use Rattle.sa_typing.specs.Contexts.{Env, guarded, in_branch, in_loop, is_inner, may_leave}
 use Rattle.sa_typing.specs.Expressions.{is_assignable_expr, type_of_expr}
 
--- the kinds of faults that statements make
+-- the kinds of faults with which statements stop the program
 abbrev pub is_end : FaultKind → Bool
 is_end fault_kind.NoBranch = true
 is_end fault_kind.NoReturn = true
@@ -33,7 +33,7 @@ module _ (f : Env) where
   well_exit at (While test) = is_test (type_of_expr f at test)
   well_exit at (Until test) = is_test (type_of_expr f at test)
 
-  -- what is given back is of the type of the result, or there is neither
+  -- the returned value is of the type of the result, or there is neither
   abbrev pub gives_as : TypingContext → Option Expr → Option ℕ → Bool
   gives_as at None None = true
   gives_as at (Some e) (Some ty) = is_assignable_expr f at ty e
@@ -42,7 +42,7 @@ module _ (f : Env) where
   abbrev pub gives_back : TypingContext → Option Expr → Bool
   gives_back at value = gives_as at value f.gives
 
-  -- The type that the tested variable has in a branch: its own where this is below the type of the branch, else the type of the
+  -- The type that the tested variable has in a branch: its own where this is a subtype of the type of the branch, else the type of the
   -- branch.
   abbrev pub narrowed : ℕ → ℕ → ℕ
   narrowed tested ty = if is_supertype f.rows ty tested then tested else ty

@@ -1,4 +1,4 @@
--- What a target of a class takes and gives.
+-- The parameters and result of a target of a class.
 use Rattle.std.specs.Prelude.{ℕ, zero, suc, Bool, false, ◌==◌, if◌then◌else◌, length, slice_get, Option, Some, None}
 use Rattle.std.specs.Prelude.{is_some, option_map, option_and_then}
 use Rattle.std.specs.Option.{option_map_or}
@@ -15,7 +15,7 @@ use Rattle.sa_typing.specs.Builtins.{arity_of, first_type, is_of, result_type, s
 abbrev pub count_if : ℕ → Bool → Option ℕ
 count_if count test = if test then Some count else None
 
--- how many arguments a feature takes, where it is one of the class
+-- how many parameters a feature has, where it is one of the class
 abbrev pub feature_arity : TypedFeature → ℕ → Option ℕ
 feature_arity f class = count_if (length f.modes) (f.class == class)
 
@@ -40,12 +40,12 @@ builtin_parameter w class feature zero = in_parameter (first_type w feature)
 builtin_parameter w class feature (suc zero) = in_parameter (second_type w class feature)
 builtin_parameter w class feature _ = None
 
--- The writer of an attribute gives a changed copy of an immutable value, and nothing of an object.
+-- The writer of an attribute gives a changed copy of an immutable value, and nothing for an object.
 abbrev pub set_result : Rows → ℕ → Option ℕ
 set_result w class = if is_immutable w class then Some class else None
 
 module _ (w : Rows) where
-  -- how many arguments a target takes, where it is one of the class
+  -- how many parameters a target has, where it is one of the class
   abbrev pub target_arity : ℕ → Target → Option ℕ
   target_arity class (target.Feature k) = option_and_then (λ f. feature_arity f class) (slice_get w.features k)
   target_arity class (target.Builtin b) = count_if (arity_of b) (is_of w class b)
@@ -61,7 +61,7 @@ module _ (w : Rows) where
   target_parameter class (target.SetShared k) place = only_parameter (shared_type w k) place
   target_parameter class _ place = None
 
-  -- the type of what it gives, if it gives something
+  -- the type of its result, if it has one
   abbrev pub target_result : ℕ → Target → Option ℕ
   target_result class (target.Feature k) = option_and_then (λ f. f.result) (slice_get w.features k)
   target_result class (target.Builtin b) = result_type w class b

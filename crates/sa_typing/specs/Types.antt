@@ -9,7 +9,7 @@ use Rattle.sa_ast.specs.declared.ty.Mode.{Mode}
 use Rattle.sa_ast.specs.declared.ty.Mode.TheVariants as mode
 use Rattle.sa_ast.specs.TypeEquality.{same_mode}
 use Rattle.sa_ast.specs.Types.{BareTy, Named, Same, Rout, Iter, bare}
-use Rattle.sa_types.specs.Abstract.{is_abstract_type}
+use Rattle.sa_subst.specs.Abstract.{is_abstract_type}
 use Rattle.sa_typed.specs.declared.program.TypeDef.{TypeDef}
 use Rattle.sa_typing.specs.declared.expr_type.ParamType.{ParamType}
 use Rattle.sa_typing.specs.declared.call_type.CallType.{CallType}
@@ -30,13 +30,13 @@ abbrev pub rises_from : Option ℕ → List ℕ → Bool
 rises_from last [] = true
 rises_from last (n ∷ more) = is_after last n && rises_from (Some n) more
 
--- the one is a part of the other, in the same order
+-- the one is a sublist of the other, in the same order
 abbrev pub is_part : List ℕ → List ℕ → Bool
 is_part [] whole = true
 is_part (a ∷ part) [] = false
 is_part (a ∷ part) (b ∷ whole) = if a == b then is_part part whole else is_part (a ∷ part) whole
 
--- a number put into a list before the first that is greater
+-- a number inserted into a list before the first that is greater
 abbrev pub put_in : ℕ → List ℕ → List ℕ
 put_in n [] = n ∷ []
 put_in n (a ∷ more) = if nat_lt n a then n ∷ a ∷ more else a ∷ put_in n more
@@ -74,14 +74,14 @@ has_layout w t =
     && (is_type_or_none w t.elem
     && ((length t.attrs == 0 || not (is_abstract_kind t.kind)) && (not t.array || is_reference_kind t.kind))))
 
--- ---- bound types whose values may stand for those of others
+-- ---- bound types whose values may be used as those of others
 
--- A type is another or below it, without a change of how its values look: where they differ, neither is immutable.
+-- A type is another or a subtype of it, with the same representation of values: where they differ, neither is immutable.
 abbrev pub is_alike : Rows → ℕ → ℕ → Bool
 is_alike w lower upper =
     lower == upper || (not (is_immutable w lower) && (not (is_immutable w upper) && is_strict_supertype w upper lower))
 
--- what is handed over goes to the lower one, and what comes back goes to the upper one
+-- what is passed goes from the upper type to the lower one, and what is copied out from the lower one to the upper one
 abbrev pub is_variance_alike : Rows → Mode → ℕ → ℕ → Bool
 is_variance_alike w mode.In lower upper = is_alike w upper lower
 is_variance_alike w mode.Once lower upper = is_alike w upper lower
@@ -108,9 +108,9 @@ both_alike w _ _ = false
 abbrev pub is_bound_supertype : Rows → ℕ → ℕ → Bool
 is_bound_supertype w n upper = both_alike w (call_type_at w.bound n) (call_type_at w.bound upper)
 
--- ---- the types above a type
+-- ---- the proper supertypes of a type
 
--- a type may be above another: it is abstract, or a bound type for whose values those of the other may stand
+-- a type may be a supertype of another: it is abstract, or a bound type for whose values those of the other may be used
 abbrev pub is_valid_supertype : Rows → ℕ → ℕ → Bool
 is_valid_supertype w n upper = is_abstract w upper || is_bound_supertype w n upper
 
@@ -118,7 +118,7 @@ abbrev pub are_valid_supertypes : Rows → ℕ → List ℕ → Bool
 are_valid_supertypes w n [] = true
 are_valid_supertypes w n (upper ∷ more) = is_valid_supertype w n upper && are_valid_supertypes w n more
 
--- all that is above a type is among these
+-- all proper supertypes of a type are among these
 abbrev pub has_supertypes_in : Rows → List ℕ → ℕ → Bool
 has_supertypes_in w holders upper = option_map_or (λ t. is_part t.above holders) (slice_get w.types upper) false
 
@@ -126,7 +126,7 @@ abbrev pub have_supertypes_in : Rows → List ℕ → List ℕ → Bool
 have_supertypes_in w holders [] = true
 have_supertypes_in w holders (upper ∷ more) = has_supertypes_in w holders upper && have_supertypes_in w holders more
 
--- a type with this number and those above it are these
+-- a type with this number and its proper supertypes are these
 unfoldable pub makes_up : ℕ → List ℕ → TypeDef → Bool
 makes_up upper above t = length t.above + 1 == length above && pointwise nat_eq (put_in upper t.above) above
 
@@ -137,12 +137,12 @@ abbrev pub has_next : Rows → List ℕ → List ℕ → Bool
 has_next w above [] = false
 has_next w above (upper ∷ more) = is_next w above upper || has_next w above more
 
--- What is above the types above a type holds its values too: it is so where one of them has all the others above it, if it is so of
--- that one; or each of them has above it only what is above the type, and perhaps the type itself.
+-- The supertypes of the supertypes of a type are supertypes of it too. This is so where one of its supertypes has all the others as
+-- supertypes, if it is so of that one; or where each of them has as supertypes only supertypes of the type, and perhaps the type itself.
 abbrev pub is_closed : Rows → ℕ → List ℕ → Bool
 is_closed w n above = has_next w above above || have_supertypes_in w (put_in n above) above
 
--- they come by rising numbers, may be above it, and hold its values
+-- they come in ascending order, may be supertypes of it, and are closed
 abbrev pub well_supertypes : Rows → ℕ → TypeDef → Bool
 well_supertypes w n t = rises_from None t.above && (are_valid_supertypes w n t.above && is_closed w n t.above)
 
@@ -156,7 +156,7 @@ abbrev pub well_types : Rows → ℕ → List TypeDef → Bool
 well_types w n [] = true
 well_types w n (t ∷ more) = well_type w n t && well_types w (n + 1) more
 
--- ---- the types whose numbers are the same in each program
+-- ---- the types that have the same numbers in each program
 
 abbrev pub is_plain_immutable : Rows → ℕ → Bool
 is_plain_immutable w = of_type w (λ t. is_immutable_kind t.kind && length t.attrs == 0) false

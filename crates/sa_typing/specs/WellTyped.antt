@@ -1,4 +1,4 @@
--- Which typed trees are well typed.
+-- Which programs are well typed.
 use Rattle.std.specs.Prelude.{ℕ, IsTrue, map}
 use Rattle.std.specs.List.{list_all}
 use Rattle.sa_typed.specs.declared.program.TypedProgram.{TypedProgram}
@@ -9,7 +9,7 @@ use Rattle.sa_typing.specs.Layout.{IsAcyclic}
 use Rattle.sa_typing.specs.Signatures.{well_signatures}
 use Rattle.sa_typing.specs.Features.{well_feature, well_main, well_shared}
 
--- the rows of a tree
+-- the tables of a program
 abbrev pub rows_of : TypedProgram → Rows
 rows_of core = record {
   types = core.types;
@@ -21,13 +21,13 @@ rows_of core = record {
   characters = characters_in 0 core.types;
 }
 
--- with these rows, that runs the feature with this number
+-- with these tables, where the feature with this number is run
 pub record AreWellTyped (w : Rows) (number : ℕ) : Type 0 where
   -- BOOL, INT, CHAR, STR, FAULT and $OB are what they have to be
   pub given : IsTrue (well_base_types w)
-  -- each type has the kind of its name, attributes of types of the program, and above it what may stand above it
+  -- each type has the kind of its name, attributes of types of the program, and supertypes that it may have
   pub types : IsTrue (well_types w 0 w.types)
-  -- no immutable class holds itself
+  -- no immutable class contains itself
   pub flat : IsAcyclic w
   -- each signature has its implementations
   pub signatures : IsTrue (well_signatures w 0 w.signatures)

@@ -1,4 +1,4 @@
-//! What a bind may call, and of which bound type its value is.
+//! What a bind may call, and which bound type its value has.
 
 ghost use Rattle.std.specs.Prelude.{◌≡◌};
 ghost use Rattle.sa_typing.specs.Rows.{rows};
@@ -10,7 +10,7 @@ use crate::expr_type::{ParamType, ResolvedCallee, agree, is_same_param, is_same_
 use crate::view::TypingView;
 use sa_typed::TypedCallee;
 
-/// Whether it can be bound: the call of a bound value can't.
+/// Whether a callee can be bound: the call of a bound value can't.
 pub(crate) fn is_bindable(called: TypedCallee) -> bool
     ensures { result ≡ is_bindable called }
 {
@@ -20,7 +20,7 @@ pub(crate) fn is_bindable(called: TypedCallee) -> bool
     }
 }
 
-/// Whether a bound type of this shape is one of an iter where what is bound is, and gives the same.
+/// Whether a bound type of this call type is one of an iter exactly where the callee is an iter, and has the same result.
 pub(crate) fn is_bound_alike(
     view: &TypingView<'_>,
     shape: &CallType,

@@ -1,4 +1,4 @@
-//! What the built-in features take and give.
+//! The parameters and results of the built-in features.
 
 ghost use Rattle.std.specs.Prelude.{◌≡◌};
 ghost use Rattle.sa_typing.specs.Builtins.{arity_of, first_type, is_characters, is_of, result_type, second_type};
@@ -7,7 +7,7 @@ ghost use Rattle.sa_typing.specs.Rows.{rows};
 use crate::view::TypingView;
 use sa_prelude::BuiltinFeature;
 
-/// The numbers of the types that are the same in each program.
+/// The numbers of the types that have the same numbers in each program.
 pub const OB: u32 = 0;
 
 pub const BOOL: u32 = 3;
@@ -70,7 +70,7 @@ fn is_characters(view: &TypingView<'_>, ty: Option<u32>) -> bool
     }
 }
 
-/// The number of the type of the first argument, if there is one.
+/// The number of the type of the first parameter, if there is one.
 pub(crate) fn first_type(view: &TypingView<'_>, feature: BuiltinFeature) -> Option<u32>
     ensures { result ≡ first_type (rows view.now) feature }
 {
@@ -110,7 +110,7 @@ pub(crate) fn first_type(view: &TypingView<'_>, feature: BuiltinFeature) -> Opti
     }
 }
 
-/// The number of the type of the second argument, if there is one.
+/// The number of the type of the second parameter, if there is one.
 pub(crate) fn second_type(view: &TypingView<'_>, class: u32, feature: BuiltinFeature) -> Option<u32>
     ensures { result ≡ second_type (rows view.now) class feature }
 {
@@ -122,7 +122,7 @@ pub(crate) fn second_type(view: &TypingView<'_>, class: u32, feature: BuiltinFea
     }
 }
 
-/// How many arguments a built-in feature takes.
+/// How many parameters a built-in feature has.
 pub(crate) fn arity_of(feature: BuiltinFeature) -> usize
     ensures { result ≡ arity_of feature }
 {

@@ -1,4 +1,4 @@
-//! What calls of bound values and of signatures take and give, in types by their numbers.
+//! The call types of bound values and of signatures, with types given by their numbers.
 
 ghost use Rattle.std.specs.Prelude.{◌≡◌, IfOk, map};
 ghost use Rattle.sa_ast.specs.Types.{all_bare, all_bare_args, bare, option_bare};
@@ -6,14 +6,15 @@ ghost use Rattle.sa_typing.specs.CallTypes.{AreNumbers, bound_call_type, charact
 ghost use Rattle.sa_typing.specs.CallTypes.{number_of, parameters_of, result_number, call_type_with, signature_call_type, call_type_of_bound};
 
 use crate::expr_type::ParamType;
-use sa_ast::{ModeTy, NoMemory, Ty};
+use failure::{Failure, Invariant};
+use sa_ast::{ModeTy, Ty};
 use sa_graph::word;
 use sa_typed::{TypeDef, TypedSignature};
 use sqlite_items::{Boxed, Items};
 use std::alloc::Global;
 use std::collections::HashMap;
 
-/// What a call takes and gives, and whether it is one of an iter.
+/// A call type: the parameters and result of a call, and whether it is one of an iter.
 #[derive(Drop)]
 pub struct CallType {
     pub iter: bool,
@@ -30,9 +31,9 @@ pub(crate) struct Numbers<'a> {
 }
 
 impl<'a> Numbers<'a> {
-    /// The numbers of these types. Of two that are the same the first counts.
+    /// The numbers of these types. Of two types that are the same, the first counts.
     #[tactic(auto, using(crate::proofs::Numbered::numbers))]
-    pub(crate) fn make(alloc: Global, types: &'a [TypeDef]) -> Result<Numbers<'a>, NoMemory>
+    pub(crate) fn make(alloc: Global, types: &'a [TypeDef]) -> Result<Numbers<'a>, Failure>
         ensures numbers { IfOk result AreNumbers }
         ensures types { IfOk result (λ numbers. numbers.types.now ≡ types.now) }
     {
@@ -40,7 +41,7 @@ impl<'a> Numbers<'a> {
         let mut at = types.len();
         'types: while at > 0 {
             at -= 1;
-            let number = word(at)?;
+            let number = word(at, Invariant::CheckedCount)?;
             by_type.insert(types[at].ty.copy(alloc)?, number)?;
         }
         Ok(Numbers { by_type, types })
@@ -54,9 +55,9 @@ impl<'a> Numbers<'a> {
         self.by_type.get(ty).copied()
     }
 
-    /// The shapes of the bound types, by type.
+    /// The call types of the bound types, by type.
     #[tactic(auto, using(crate::proofs::Numbered::shapes))]
-    pub(crate) fn bound_call_types(&self, alloc: Global) -> Result<Vec<Option<CallType>>, NoMemory>
+    pub(crate) fn bound_call_types(&self, alloc: Global) -> Result<Vec<Option<CallType>>, Failure>
         requires { AreNumbers self.now }
         ensures { IfOk result (λ shapes. shapes.items
             ≡ map (call_type_of_bound self.now.types.now) self.now.types.now) }
@@ -68,9 +69,9 @@ impl<'a> Numbers<'a> {
         Ok(shapes)
     }
 
-    /// The shape of a bound type. Another type has none, nor has one whose types the program lacks.
+    /// The call type of a bound type. Another type has none, nor has one whose types the program lacks.
     #[tactic(auto, using(sa_ast::proofs::BareTypes::bares))]
-    fn bound_call_type(&self, alloc: Global, ty: &Ty) -> Result<Option<CallType>, NoMemory>
+    fn bound_call_type(&self, alloc: Global, ty: &Ty) -> Result<Option<CallType>, Failure>
         requires { AreNumbers self.now }
         ensures { IfOk result (λ shape. shape ≡ bound_call_type self.now.types.now (bare ty.now)) }
     {
@@ -86,13 +87,13 @@ impl<'a> Numbers<'a> {
         }
     }
 
-    /// The shapes of signatures.
+    /// The call types of signatures.
     #[tactic(auto, using(crate::proofs::Numbered::shapes))]
     pub(crate) fn signature_call_types(
         &self,
         alloc: Global,
         sigs: &[TypedSignature],
-    ) -> Result<Vec<Option<CallType>>, NoMemory>
+    ) -> Result<Vec<Option<CallType>>, Failure>
         requires { AreNumbers self.now }
         ensures { IfOk result (λ shapes. shapes.items ≡ map (signature_call_type self.now.types.now) sigs.now) }
     {
@@ -103,12 +104,12 @@ impl<'a> Numbers<'a> {
         Ok(shapes)
     }
 
-    /// The shape of a signature, unless the program lacks one of its types.
+    /// The call type of a signature, unless the program lacks one of its types.
     fn signature_call_type(
         &self,
         alloc: Global,
         sig: &TypedSignature,
-    ) -> Result<Option<CallType>, NoMemory>
+    ) -> Result<Option<CallType>, Failure>
         requires { AreNumbers self.now }
         ensures { IfOk result (λ shape. shape ≡ signature_call_type self.now.types.now sig.now) }
     {
@@ -117,7 +118,7 @@ impl<'a> Numbers<'a> {
         self.shape(alloc, iter, sig.sig.args.as_slice(), gives)
     }
 
-    /// The number of a result's type: none without a result, and no answer where the program lacks the type.
+    /// The number of a result's type: `Some(None)` without a result, and `None` where the program lacks the type.
     fn result_number(&self, gives: &Option<Ty>) -> Option<Option<u32>>
         requires { AreNumbers self.now }
         ensures { result ≡ result_number self.now.types.now (option_bare gives.now) }
@@ -139,14 +140,14 @@ impl<'a> Numbers<'a> {
         }
     }
 
-    /// The shape of these arguments and a result of this number, where the program has the types.
+    /// The call type of these arguments and a result of this number, where the program has the types.
     fn shape(
         &self,
         alloc: Global,
         iter: bool,
         args: &[ModeTy],
         gives: Option<Option<u32>>,
-    ) -> Result<Option<CallType>, NoMemory>
+    ) -> Result<Option<CallType>, Failure>
         requires { AreNumbers self.now }
         ensures { IfOk result (λ shape. shape
             ≡ call_type_with iter (parameters_of self.now.types.now (all_bare_args args.now)) gives) }
@@ -170,7 +171,7 @@ impl<'a> Numbers<'a> {
         &self,
         alloc: Global,
         args: &[ModeTy],
-    ) -> Result<Option<Items<ParamType>>, NoMemory>
+    ) -> Result<Option<Items<ParamType>>, Failure>
         requires { AreNumbers self.now }
         ensures { IfOk result (λ params. params ≡ parameters_of self.now.types.now (all_bare_args args.now)) }
     {
@@ -194,12 +195,12 @@ fn is_iter_name(name: &[u8]) -> bool
 
 /// The number of ARRAY{CHAR}, where it is a type of the program.
 #[tactic(auto, using(crate::proofs::Numbered::arrays))]
-pub(crate) fn characters_of(types: &[TypeDef]) -> Result<Option<u32>, NoMemory>
+pub(crate) fn characters_of(types: &[TypeDef]) -> Result<Option<u32>, Failure>
     ensures { IfOk result (λ found. found ≡ characters_in 0 types.now) }
 {
     for (number, info) in types.iter().enumerate() {
         if is_char_array(&info.ty) {
-            return Ok(Some(word(number)?));
+            return Ok(Some(word(number, Invariant::CheckedCount)?));
         }
     }
     Ok(None)

@@ -1,4 +1,4 @@
-//! What a call reaches by the type of its receiver, and what that takes and gives.
+//! The callee of a call, by the type of its receiver, and the callee's parameters and result.
 
 ghost use Rattle.std.specs.Prelude.{◌≡◌, false, length, option_and_then, option_map, slice_get};
 ghost use Rattle.std.specs.Option.{option_map_or};
@@ -11,8 +11,7 @@ use crate::targets::{is_target_iter, target_arity, target_parameter, target_resu
 use crate::view::{TypingView, call_type_at};
 use sa_typed::TypedCallee;
 
-/// What a call reaches, on what its receiver gives. There is no answer where the receiver isn't of the type of which this is
-/// called.
+/// The callee of a call on this receiver, or `None` where the receiver isn't of the type on which it is called.
 pub(crate) fn reached(
     view: &TypingView<'_>,
     called: TypedCallee,
@@ -61,7 +60,7 @@ fn bound_by(view: &TypingView<'_>, on: ExprType) -> Option<ResolvedCallee>
     }
 }
 
-/// How many arguments it takes. There is no answer where it lacks a shape.
+/// How many parameters the callee has, or `None` where it lacks a call type.
 pub(crate) fn arity(view: &TypingView<'_>, reached: ResolvedCallee) -> Option<usize>
     ensures { result ≡ arity (rows view.now) reached }
 {
@@ -81,7 +80,7 @@ fn shape_arity(list: &[Option<CallType>], at: usize) -> Option<usize>
     }
 }
 
-/// A parameter of it.
+/// The parameter of the callee at an index, or `None` where it has none.
 pub fn parameter(view: &TypingView<'_>, reached: ResolvedCallee, place: usize) -> Option<ParamType>
     ensures { result ≡ parameter (rows view.now) reached place }
 {
@@ -101,7 +100,7 @@ fn shape_parameter(list: &[Option<CallType>], at: usize, place: usize) -> Option
     }
 }
 
-/// The number of the type of what it gives, if it gives something.
+/// The number of the type of the callee's result, or `None` where it gives nothing.
 pub fn result_type(view: &TypingView<'_>, reached: ResolvedCallee) -> Option<u32>
     ensures { result ≡ result_type (rows view.now) reached }
 {
@@ -121,7 +120,7 @@ fn shape_result(list: &[Option<CallType>], at: usize) -> Option<u32>
     }
 }
 
-/// Whether it is an iter.
+/// Whether the callee is an iter.
 pub(crate) fn is_iter(view: &TypingView<'_>, reached: ResolvedCallee) -> bool
     ensures { result ≡ is_iter (rows view.now) reached }
 {

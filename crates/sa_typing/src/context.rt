@@ -1,4 +1,4 @@
-//! Where an expression or a statement stands.
+//! The context in which an expression or a statement is typed.
 
 ghost use Rattle.std.specs.Prelude.{◌≡◌, None};
 ghost use Rattle.sa_typing.specs.Contexts.{env, guarded, in_branch, in_loop, is_in_loop, is_inner, may_leave, outside};
@@ -6,7 +6,7 @@ ghost use Rattle.sa_typing.specs.Contexts.{env, guarded, in_branch, in_loop, is_
 use crate::view::TypingView;
 use sa_typed::Site;
 
-/// The feature or the initialiser in which something stands.
+/// The environment of an expression or a statement: the feature or the initialiser to which it belongs.
 #[derive(Clone, Copy)]
 pub struct TypingEnv<'a> {
     pub view: TypingView<'a>,
@@ -20,21 +20,21 @@ pub struct TypingEnv<'a> {
     pub gives: Option<u32>,
 }
 
-/// What is around an expression or a statement.
+/// The context of an expression or a statement: the loops, protects and branches that enclose it.
 #[derive(Clone, Copy)]
 pub struct TypingContext {
     /// The number of the innermost loop.
     pub owner: Option<u32>,
-    /// Whether a protect stands between the place and this loop.
+    /// Whether a protect is between the position and this loop.
     pub guarded: bool,
-    /// Whether a protect is around.
+    /// Whether a protect encloses it.
     pub protected: bool,
     /// The number of the type of `exception`, in a branch of a protect.
     pub branch: Option<u32>,
 }
 
 impl TypingContext {
-    /// A place outside any loop and any protect.
+    /// The context outside any loop and any protect.
     pub fn outside() -> TypingContext
         ensures { result ≡ outside }
     {
@@ -46,7 +46,7 @@ impl TypingContext {
         }
     }
 
-    /// The same in a loop.
+    /// The same context, in a loop.
     pub fn in_loop(self, number: u32) -> TypingContext
         ensures { result ≡ in_loop number self }
     {
@@ -58,7 +58,7 @@ impl TypingContext {
         }
     }
 
-    /// The same in a protect.
+    /// The same context, in a protect.
     pub fn guarded(self) -> TypingContext
         ensures { result ≡ guarded self }
     {
@@ -70,7 +70,7 @@ impl TypingContext {
         }
     }
 
-    /// The same in a branch of a protect for this type.
+    /// The same context, in a branch of a protect for this type.
     pub fn in_branch(self, ty: u32) -> TypingContext
         ensures { result ≡ in_branch ty self }
     {
@@ -82,7 +82,7 @@ impl TypingContext {
         }
     }
 
-    /// Whether the innermost loop has this number, and no protect stands between.
+    /// Whether the innermost loop has this number, and no protect is between.
     pub(crate) fn is_in_loop(self, number: u32) -> bool
         ensures { result ≡ is_in_loop number self }
     {
@@ -92,14 +92,14 @@ impl TypingContext {
         }
     }
 
-    /// Whether the innermost loop can be left: there is one, and no protect stands between.
+    /// Whether the innermost loop can be exited: there is one, and no protect is between.
     pub(crate) fn may_leave(self) -> bool
         ensures { result ≡ may_leave self }
     {
         self.owner.is_some() && !self.guarded
     }
 
-    /// Whether a loop with this number may stand here: those around have lower ones.
+    /// Whether a loop with this number may occur here: the enclosing ones have lower numbers.
     pub(crate) fn is_inner(self, number: u32) -> bool
         ensures { result ≡ is_inner number self }
     {

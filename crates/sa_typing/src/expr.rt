@@ -19,7 +19,7 @@ use crate::forms::{
 };
 use sa_typed::{TypedArg, TypedExpr};
 
-/// What an expression gives, where it is well typed at its place.
+/// The type of an expression, or `None` where it isn't well typed in its context.
 #[tactic(auto, using(sa_typed::proofs::Copies::copies))]
 #[cycle(type_of)]
 pub(crate) fn type_of_expr(
@@ -91,7 +91,7 @@ pub(crate) fn type_of_expr(
     }
 }
 
-/// Whether the arguments of a call are as many as what it reaches takes, and it takes each of them.
+/// Whether a call has as many arguments as its callee has parameters, and each parameter takes its argument.
 #[tactic(auto, using(crate::proofs::Arguments::arguments))]
 #[cycle(type_of)]
 fn args_fit(
@@ -130,8 +130,8 @@ fn arg_fits(
     }
 }
 
-/// Whether the arguments of a bind are as many as what it reaches takes, it takes those that are given, and those that are left
-/// open are the parameters of the bound value, in order.
+/// Whether a bind has as many arguments as its callee has parameters, each parameter takes its argument, and those that are left open are
+/// the parameters of the bound value, in order.
 #[tactic(auto, using(crate::proofs::Arguments::arguments))]
 #[cycle(type_of)]
 fn bound_args_fit(
@@ -156,8 +156,7 @@ fn bound_args_fit(
     is_count(args.len(), arity(&scope.view, reached)) && is_count(next, arity(&scope.view, bound))
 }
 
-/// Whether a parameter takes an argument of a bind; or it is the next parameter of the bound value, where the argument is left
-/// open.
+/// Whether a parameter takes an argument of a bind; or, where the argument is left open, is the next parameter of the bound value.
 #[tactic(auto, using(sa_typed::proofs::Copies::copies))]
 #[cycle(type_of)]
 fn bound_arg_fits(
@@ -189,7 +188,7 @@ fn is_open(arg: &TypedArg) -> bool
     }
 }
 
-/// Whether each of these expressions may stand where a type is wanted.
+/// Whether each of these expressions is assignable to a type.
 #[tactic(auto, using(crate::proofs::Arguments::arguments))]
 #[cycle(type_of)]
 fn are_assignable(scope: &TypingEnv<'_>, at: TypingContext, ty: u32, list: &[TypedExpr]) -> bool
@@ -203,7 +202,7 @@ fn are_assignable(scope: &TypingEnv<'_>, at: TypingContext, ty: u32, list: &[Typ
     true
 }
 
-/// Whether an expression may stand where a type is wanted.
+/// Whether an expression is assignable to a type.
 pub(crate) fn is_assignable_expr(
     scope: &TypingEnv<'_>,
     at: TypingContext,

@@ -1,4 +1,4 @@
-//! What expressions give, parameters, and what a call reaches.
+//! The types of expressions, parameters, and callees.
 
 ghost use Rattle.std.specs.Prelude.{◌≡◌};
 ghost use Rattle.sa_typing.specs.ExprType.{agree, is_just, is_plain, is_value, result_of, same_param, same_type};
@@ -7,19 +7,19 @@ ghost use Rattle.sa_ast.specs.TypeEquality.{same_mode};
 use sa_ast::Mode;
 use sa_typed::Target;
 
-/// What an expression gives.
+/// The type of an expression.
 #[derive(Clone, Copy)]
 pub enum ExprType {
     /// No value.
     NoValue,
     /// A value of the type with this number.
     Of(u32),
-    /// A value of the immutable class with this number, widened to be one of an abstract type.
+    /// A value of the immutable class with this number, boxed to be one of an abstract type.
     BoxedOf(u32),
 }
 
 impl ExprType {
-    /// Whether it is a value of this type, and isn't widened.
+    /// Whether it is a value of this type that isn't boxed.
     pub fn is_plain(self, ty: u32) -> bool
         ensures { result ≡ is_plain ty self }
     {
@@ -39,7 +39,7 @@ impl ExprType {
         }
     }
 
-    /// What a call gives whose result has this type, or that has none.
+    /// The type of a call whose result has this type, or that has no result.
     pub fn of_result(result_type: Option<u32>) -> ExprType
         ensures { result ≡ result_of result_type }
     {
@@ -50,7 +50,7 @@ impl ExprType {
     }
 }
 
-/// A parameter of what is called: its mode, and the number of its type.
+/// A parameter of a callee: its mode, and the number of its type.
 #[derive(Clone, Copy)]
 pub struct ParamType {
     pub mode: Mode,
@@ -87,7 +87,7 @@ pub(crate) fn is_same_type(one: Option<u32>, other: Option<u32>) -> bool
     }
 }
 
-/// Whether there is a type, and it is this.
+/// Whether there is a type, and it is this one.
 pub(crate) fn is_just(ty: u32, found: Option<u32>) -> bool
     ensures { result ≡ is_just ty found }
 {
@@ -97,7 +97,7 @@ pub(crate) fn is_just(ty: u32, found: Option<u32>) -> bool
     }
 }
 
-/// Whether there is a count, and it is this.
+/// Whether there is a count, and it is this one.
 pub(crate) fn is_count(count: usize, found: Option<usize>) -> bool
     ensures { result ≡ is_just count found }
 {
@@ -114,7 +114,7 @@ pub(crate) fn agree(one: bool, other: bool) -> bool
     if one { other } else { !other }
 }
 
-/// What a call reaches.
+/// The callee of a call, resolved by its receiver.
 #[derive(Clone, Copy)]
 pub enum ResolvedCallee {
     /// A target of the type with this number.

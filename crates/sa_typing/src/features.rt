@@ -17,19 +17,20 @@ use crate::expr::is_assignable_expr;
 use crate::sites::sites_agree;
 use crate::stmt::well_stmts;
 use crate::view::{TypingView, call_type_at, is_abstract_kind};
-use sa_ast::{Mode, NoMemory};
+use failure::Failure;
+use sa_ast::Mode;
 use sa_typed::{TypedExpr, TypedFeature, TypedShared, TypedStmt};
 use std::alloc::Global;
 
-/// How many variables a feature has at most, arguments among them.
+/// How many variables a feature has at most, parameters among them.
 const MOST_VARIABLES: usize = 200;
 
-/// How many `out` and `inout` arguments a feature has at most.
+/// How many `out` and `inout` parameters a feature has at most.
 const MOST_OUT: usize = 16;
 
 /// Whether all features are well typed.
 #[tactic(auto, using(crate::proofs::Listed::all))]
-pub(crate) fn well_features(alloc: Global, view: &TypingView<'_>) -> Result<bool, NoMemory>
+pub(crate) fn well_features(alloc: Global, view: &TypingView<'_>) -> Result<bool, Failure>
     ensures { IfOk result (λ well. well ≡ list_all (well_feature (rows view.now)) view.now.features.now) }
 {
     for feature in view.features {
@@ -45,7 +46,7 @@ fn well_feature(
     alloc: Global,
     view: &TypingView<'_>,
     feature: &TypedFeature,
-) -> Result<bool, NoMemory>
+) -> Result<bool, Failure>
     ensures { IfOk result (λ well. well ≡ well_feature (rows view.now) feature.now) }
 {
     if !has_well_header(view, feature) {
@@ -58,14 +59,14 @@ fn well_feature(
     sites_agree(alloc, &scope, feature.body.as_slice())
 }
 
-/// Whether the types, the limits and the end of a feature are well.
+/// Whether the types, the limits and the end of a feature are right.
 fn has_well_header(view: &TypingView<'_>, feature: &TypedFeature) -> bool
     ensures { result ≡ has_well_header (rows view.now) feature.now }
 {
     has_types(view, feature) && within_limits(feature) && ends_well(feature)
 }
 
-/// A feature, as something stands in it.
+/// The environment of a feature's body.
 pub fn env_of<'a>(view: &TypingView<'a>, feature: &'a TypedFeature) -> TypingEnv<'a>
     ensures env { env result ≡ feature_env (rows view.now) feature.now }
     ensures sites { result.sites.now ≡ feature.now.sites }
@@ -80,7 +81,7 @@ pub fn env_of<'a>(view: &TypingView<'a>, feature: &'a TypedFeature) -> TypingEnv
     }
 }
 
-/// Whether the types of a feature are types of the program, its class is a concrete one, and its arguments are variables.
+/// Whether the types of a feature are types of the program, its class is a concrete one, and its parameters are variables.
 fn has_types(view: &TypingView<'_>, feature: &TypedFeature) -> bool
     ensures { result ≡ has_types (rows view.now) feature.now }
 {
@@ -132,7 +133,7 @@ fn within_limits(feature: &TypedFeature) -> bool
     feature.vars.len() <= MOST_VARIABLES && out_arguments(feature.modes.as_slice()) <= MOST_OUT
 }
 
-/// How many of these arguments are `out` or `inout`.
+/// How many of these parameters are `out` or `inout`.
 #[tactic(auto, using(crate::proofs::Counted::counts))]
 fn out_arguments(modes: &[Mode]) -> usize
     ensures { result ≡ count_by is_out modes.now }
@@ -152,14 +153,14 @@ fn is_out(mode: Mode) -> bool
     matches!(mode, Mode::Out | Mode::Inout)
 }
 
-/// Whether a routine with a result never comes to its end: a stop stands there.
+/// Whether execution never reaches the end of a routine with a result: its last statement is a fault.
 fn ends_well(feature: &TypedFeature) -> bool
     ensures { result ≡ ends_well feature.now }
 {
     feature.iter || feature.result.is_none() || ends_in_stop(feature.body.as_slice())
 }
 
-/// Whether the last statement is a stop.
+/// Whether the last statement is a fault.
 #[tactic(auto, using(crate::proofs::Listed::last))]
 fn ends_in_stop(body: &[TypedStmt]) -> bool
     ensures { result ≡ ends_in_stop body.now }
@@ -212,7 +213,7 @@ fn well_shared(view: &TypingView<'_>, shared: &TypedShared) -> bool
         && starts_well(view, shared.class, shared.ty, &shared.start)
 }
 
-/// The initialiser of a shared of this class, as something stands in it.
+/// The environment of the initialiser of a shared of this class.
 pub fn env_of_initialiser<'a>(view: &TypingView<'a>, class: u32) -> TypingEnv<'a>
     ensures { env result ≡ shared_env (rows view.now) class }
 {

@@ -1,4 +1,4 @@
-//! What the forms of expressions give, by what stands inside them.
+//! The types of the forms of expressions, by the types of their operands.
 
 ghost use Rattle.std.specs.Prelude.{◌≡◌};
 ghost use Rattle.sa_typing.specs.Forms.{type_of_array, callee_of_bind, callee_of_call, type_of_connective, elements_type, type_of_exception};
@@ -79,7 +79,7 @@ pub(crate) fn type_of_object(view: &TypingView<'_>, ty: u32) -> Option<ExprType>
     }
 }
 
-/// A new object with an array part, by what its length gives.
+/// A new object with an array part, by the type of its length.
 pub(crate) fn type_of_array(view: &TypingView<'_>, ty: u32, size: ExprType) -> Option<ExprType>
     ensures { result ≡ type_of_array (rows view.now) ty size }
 {
@@ -101,7 +101,7 @@ pub(crate) fn elements_type(view: &TypingView<'_>, ty: u32) -> Option<u32>
     }
 }
 
-/// What a call reaches that is one of an iter, or isn't.
+/// The callee of a call, where it is an iter, or where it isn't.
 pub(crate) fn callee_of_call(
     view: &TypingView<'_>,
     called: TypedCallee,
@@ -118,7 +118,7 @@ pub(crate) fn callee_of_call(
     }
 }
 
-/// What a site of the innermost loop calls.
+/// The callee of a site of the innermost loop.
 pub(crate) fn site_called(
     scope: &TypingEnv<'_>,
     at: TypingContext,
@@ -134,7 +134,7 @@ pub(crate) fn site_called(
     }
 }
 
-/// What a call gives, where its arguments fit.
+/// The type of a call, where its arguments fit.
 pub(crate) fn result_if(
     view: &TypingView<'_>,
     reached: ResolvedCallee,
@@ -149,7 +149,7 @@ pub(crate) fn result_if(
     }
 }
 
-/// Whether a parameter takes what an expression gives.
+/// Whether a parameter takes an expression of this type.
 pub(crate) fn value_fits(
     view: &TypingView<'_>,
     param: Option<ParamType>,
@@ -179,7 +179,7 @@ pub(crate) fn variable_fits(
     }
 }
 
-/// What a bind reaches whose values have this bound type.
+/// The callee of a bind whose value has this bound type.
 pub(crate) fn callee_of_bind(
     view: &TypingView<'_>,
     called: TypedCallee,
@@ -196,7 +196,7 @@ pub(crate) fn callee_of_bind(
     }
 }
 
-/// Whether a bound type is that of what is bound, but for its parameters.
+/// Whether a bound type is that of the callee, but for its parameters.
 fn has_bound_type(view: &TypingView<'_>, ty: u32, found: ResolvedCallee) -> bool
     ensures { result ≡ has_bound_type (rows view.now) ty found }
 {
@@ -227,7 +227,7 @@ pub(crate) fn type_of_reversed(
     }
 }
 
-/// Whether a target of a class is a routine that takes one argument, which is given, and gives a BOOL.
+/// Whether a target of a class is a routine that takes one argument, of this type, and gives a BOOL.
 fn is_comparison(view: &TypingView<'_>, class: u32, target: Target, given: ExprType) -> bool
     ensures { result ≡ is_comparison (rows view.now) class target given }
 {
@@ -258,7 +258,7 @@ pub(crate) fn type_of_connective(first: ExprType, second: ExprType) -> Option<Ex
     }
 }
 
-/// A value of an immutable class, widened.
+/// A value of an immutable class, boxed.
 pub(crate) fn type_of_boxed(view: &TypingView<'_>, ty: u32, of: ExprType) -> Option<ExprType>
     ensures { result ≡ type_of_boxed (rows view.now) ty of }
 {
@@ -269,7 +269,7 @@ pub(crate) fn type_of_boxed(view: &TypingView<'_>, ty: u32, of: ExprType) -> Opt
     }
 }
 
-/// Whether what an expression gives may stand where a type is wanted.
+/// Whether an expression of this type is assignable to a type.
 pub(crate) fn is_assignable_type(view: &TypingView<'_>, ty: u32, given: Option<ExprType>) -> bool
     ensures { result ≡ is_assignable_type (rows view.now) ty given }
 {
@@ -279,7 +279,7 @@ pub(crate) fn is_assignable_type(view: &TypingView<'_>, ty: u32, given: Option<E
     }
 }
 
-/// Whether what an expression gives is a BOOL.
+/// Whether an expression of this type is a BOOL.
 pub(crate) fn is_test(given: Option<ExprType>) -> bool
     ensures { result ≡ is_test given }
 {

@@ -1,4 +1,5 @@
-//! Whether a typed tree is well typed, by the conditions of `specs/WellTyped.antt`.
+//! The typing rules of the typed AST, and the verifier: whether a program is well typed, by the conditions of `specs/WellTyped.antt`. (The AST
+//! itself is in `sa_typed`.)
 #![tactic(auto)]
 
 mod binds;

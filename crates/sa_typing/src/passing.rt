@@ -8,7 +8,7 @@ use crate::expr_type::{ExprType, ParamType, is_same_mode};
 use crate::view::TypingView;
 use sa_ast::Mode;
 
-/// Whether a parameter takes a value that is handed over by this mode.
+/// Whether a parameter takes a value that is passed by this mode.
 pub(crate) fn takes_value(
     view: &TypingView<'_>,
     param: ParamType,
@@ -39,8 +39,8 @@ pub(crate) fn takes_variable(
     is_same_mode(param.mode, mode) && is_assignable_back(view, param.ty, mode, variable)
 }
 
-/// Whether what comes back of this type goes to a variable of that one: an `out` variable may be of a type above, and an
-/// `inout` variable is of the same type.
+/// Whether a value of this type can be copied out to a variable of that one: an `out` variable may be of a supertype, and an `inout`
+/// variable is of the same type.
 fn is_assignable_back(view: &TypingView<'_>, ty: u32, mode: Mode, variable: u32) -> bool
     ensures { result ≡ is_assignable_back (rows view.now) ty mode variable }
 {

@@ -1,4 +1,4 @@
-//! Whether the signatures of abstract types have their implementations: one of each concrete type below.
+//! Whether the signatures of abstract types have their implementations: one for each concrete subtype.
 
 ghost use Rattle.std.specs.Prelude.{◌≡◌, IfSome, None};
 ghost use Rattle.sa_typing.specs.Rows.{rows, call_type_at};
@@ -17,7 +17,7 @@ use crate::view::{TypingView, call_type_at, has_supertype, is_abstract_kind};
 use sa_ast::Mode;
 use sa_typed::{TypeDef, TypedImplementation, TypedSignature};
 
-/// A type, and how many concrete types are below it.
+/// A type, and how many concrete subtypes it has.
 #[derive(Clone, Copy)]
 struct Lowers {
     ty: u32,
@@ -40,7 +40,7 @@ pub(crate) fn well_signatures(view: &TypingView<'_>) -> bool
     true
 }
 
-/// How many concrete types are below a type, where it is known of another one, perhaps the same.
+/// How many concrete subtypes a type has, where the number is known of another one, perhaps the same.
 fn lowers_of(view: &TypingView<'_>, last: Option<Lowers>, ty: u32) -> Lowers
     requires { IfSome last (IsCount (rows view.now)) }
     ensures ty { result.ty ≡ ty }
@@ -68,7 +68,7 @@ fn counted(view: &TypingView<'_>, ty: u32) -> Lowers
     }
 }
 
-/// How many concrete types are below a type.
+/// How many concrete subtypes a type has.
 #[tactic(auto, using(crate::proofs::Counted::counts))]
 fn lower_count(view: &TypingView<'_>, ty: u32) -> usize
     ensures { result ≡ lower_count (rows view.now) ty }
@@ -82,15 +82,15 @@ fn lower_count(view: &TypingView<'_>, ty: u32) -> usize
     count
 }
 
-/// Whether a type is concrete and below another.
+/// Whether a type is a concrete subtype of another.
 fn is_lower(ty: u32, info: &TypeDef) -> bool
     ensures { result ≡ is_lower ty info.now }
 {
     !is_abstract_kind(info.kind) && has_supertype(ty, info)
 }
 
-/// Whether a signature of an abstract type, below which there are so many concrete types, has as many implementations, each of one of
-/// them, and by rising numbers.
+/// Whether a signature of an abstract type with this many concrete subtypes has as many implementations, each by one of them, and in
+/// ascending order of their numbers.
 fn well_signature(
     view: &TypingView<'_>,
     number: usize,
@@ -106,7 +106,7 @@ fn well_signature(
         && are_implementations(view, number, signature)
 }
 
-/// Whether implementations stand by rising numbers of their types.
+/// Whether implementations come in ascending order of the numbers of their types.
 #[tactic(auto, using(crate::proofs::Listed::rising))]
 fn are_rising(impls: &[TypedImplementation]) -> bool
     ensures { result ≡ rise_from None impls.now }
@@ -147,8 +147,8 @@ fn all_implement(
     true
 }
 
-/// Whether what a concrete class below an abstract type gives for a signature of it takes what the signature takes, and gives what
-/// it gives.
+/// Whether the implementation by a concrete class of a signature of an abstract supertype takes what the signature takes, and gives what it
+/// gives.
 fn is_implementation(
     view: &TypingView<'_>,
     shape: &CallType,
@@ -184,7 +184,7 @@ fn params_conform(view: &TypingView<'_>, params: &[ParamType], found: TypedImple
     true
 }
 
-/// Whether the parameter at a place conforms.
+/// Whether the parameter at an index conforms.
 fn conforms_at(
     view: &TypingView<'_>,
     found: TypedImplementation,

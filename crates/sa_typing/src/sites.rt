@@ -12,7 +12,7 @@ use crate::builtins::OB;
 use crate::context::{TypingContext, TypingEnv};
 use crate::expr::type_of_expr;
 use crate::expr_type::ExprType;
-use sa_ast::NoMemory;
+use failure::Failure;
 use sa_typed::{LoopExit, TypedArg, TypedArm, TypedBranch, TypedCallee, TypedExpr, TypedStmt};
 use std::alloc::Global;
 
@@ -21,7 +21,7 @@ pub(crate) fn sites_agree(
     alloc: Global,
     scope: &TypingEnv<'_>,
     list: &[TypedStmt],
-) -> Result<bool, NoMemory>
+) -> Result<bool, Failure>
     ensures { IfOk result (λ well. well
         ≡ agree_on_types (length scope.now.sites.now) (stmts_sites (env scope.now) outside (block_of list.now))) }
 {
@@ -30,9 +30,9 @@ pub(crate) fn sites_agree(
     agree_on_types(alloc, scope.sites.len(), found.as_slice())
 }
 
-/// Whether all calls at a site are of one type, where there are so many sites.
+/// Whether all calls at a site are of one type, where there are this many sites.
 #[tactic(auto, using(crate::proofs::SiteLists::known))]
-fn agree_on_types(alloc: Global, sites: usize, calls: &[(u32, u32)]) -> Result<bool, NoMemory>
+fn agree_on_types(alloc: Global, sites: usize, calls: &[(u32, u32)]) -> Result<bool, Failure>
     ensures { IfOk result (λ well. well ≡ agree_on_types sites calls.now) }
 {
     let mut known = vec![in alloc; None; sites]?;
@@ -67,7 +67,7 @@ fn add_call(
     site: u32,
     given: Option<ExprType>,
     found: &mut Vec<(u32, u32)>,
-) -> Result<(), NoMemory>
+) -> Result<(), Failure>
     ensures { OnOk result (found.new.items ≡ found.old.items ++ with_type site (calls_bound (env scope.now) site) given) }
 {
     if !calls_bound(scope, site) {
@@ -112,7 +112,7 @@ fn add_expr(
     at: TypingContext,
     e: &TypedExpr,
     found: &mut Vec<(u32, u32)>,
-) -> Result<(), NoMemory>
+) -> Result<(), Failure>
     ensures { OnOk result (found.new.items ≡ found.old.items ++ expr_sites (env scope.now) at (expr_of e.now)) }
 {
     match e {
@@ -164,7 +164,7 @@ fn add_exprs(
     at: TypingContext,
     list: &[TypedExpr],
     found: &mut Vec<(u32, u32)>,
-) -> Result<(), NoMemory>
+) -> Result<(), Failure>
     ensures { OnOk result (found.new.items ≡ found.old.items ++ exprs_sites (env scope.now) at (exprs_of list.now)) }
 {
     for e in list {
@@ -180,7 +180,7 @@ fn add_args(
     at: TypingContext,
     list: &[TypedArg],
     found: &mut Vec<(u32, u32)>,
-) -> Result<(), NoMemory>
+) -> Result<(), Failure>
     ensures { OnOk result (found.new.items ≡ found.old.items ++ args_sites (env scope.now) at (args_of list.now)) }
 {
     for arg in list {
@@ -196,7 +196,7 @@ fn add_arg(
     at: TypingContext,
     arg: &TypedArg,
     found: &mut Vec<(u32, u32)>,
-) -> Result<(), NoMemory>
+) -> Result<(), Failure>
     ensures { OnOk result (found.new.items ≡ found.old.items ++ arg_sites (env scope.now) at (arg_of arg.now)) }
 {
     match arg {
@@ -211,7 +211,7 @@ fn add_option_expr(
     at: TypingContext,
     e: &Option<TypedExpr>,
     found: &mut Vec<(u32, u32)>,
-) -> Result<(), NoMemory>
+) -> Result<(), Failure>
     ensures { OnOk result (found.new.items ≡ found.old.items ++ option_expr_sites (env scope.now) at (option_expr_of e.now)) }
 {
     match e {
@@ -226,7 +226,7 @@ fn add_exit(
     at: TypingContext,
     left: &LoopExit,
     found: &mut Vec<(u32, u32)>,
-) -> Result<(), NoMemory>
+) -> Result<(), Failure>
     ensures { OnOk result (found.new.items ≡ found.old.items ++ exit_sites (env scope.now) at (exit_of left.now)) }
 {
     match left {
@@ -244,7 +244,7 @@ fn add_stmt(
     at: TypingContext,
     stmt: &TypedStmt,
     found: &mut Vec<(u32, u32)>,
-) -> Result<(), NoMemory>
+) -> Result<(), Failure>
     ensures { OnOk result (found.new.items ≡ found.old.items ++ stmt_sites (env scope.now) at (stmt_of stmt.now)) }
 {
     match stmt {
@@ -288,7 +288,7 @@ fn add_stmts(
     at: TypingContext,
     list: &[TypedStmt],
     found: &mut Vec<(u32, u32)>,
-) -> Result<(), NoMemory>
+) -> Result<(), Failure>
     ensures { OnOk result (found.new.items ≡ found.old.items ++ stmts_sites (env scope.now) at (block_of list.now)) }
 {
     for stmt in list {
@@ -304,7 +304,7 @@ fn add_tests(
     at: TypingContext,
     list: &[TypedBranch],
     found: &mut Vec<(u32, u32)>,
-) -> Result<(), NoMemory>
+) -> Result<(), Failure>
     ensures { OnOk result (found.new.items ≡ found.old.items ++ tests_sites (env scope.now) at (tests_of list.now)) }
 {
     for entry in list {
@@ -320,7 +320,7 @@ fn add_test(
     at: TypingContext,
     entry: &TypedBranch,
     found: &mut Vec<(u32, u32)>,
-) -> Result<(), NoMemory>
+) -> Result<(), Failure>
     ensures { OnOk result (found.new.items
         ≡ found.old.items
         ++ (exprs_sites (env scope.now) at (test_of entry.now).0 ++ stmts_sites (env scope.now) at (test_of entry.now).1)) }
@@ -337,7 +337,7 @@ fn add_cases(
     at: TypingContext,
     arms: &[TypedArm],
     found: &mut Vec<(u32, u32)>,
-) -> Result<(), NoMemory>
+) -> Result<(), Failure>
     ensures { OnOk result (found.new.items ≡ found.old.items ++ cases_sites (env scope.now) at (arms_of arms.now)) }
 {
     for arm in arms {
@@ -353,7 +353,7 @@ fn add_case(
     at: TypingContext,
     arm: &TypedArm,
     found: &mut Vec<(u32, u32)>,
-) -> Result<(), NoMemory>
+) -> Result<(), Failure>
     ensures { OnOk result (found.new.items ≡ found.old.items ++ stmts_sites (env scope.now) at (arm_of arm.now).2) }
 {
     add_stmts(scope, at, arm.body.as_slice(), found)
@@ -367,7 +367,7 @@ fn add_branches(
     at: TypingContext,
     arms: &[TypedArm],
     found: &mut Vec<(u32, u32)>,
-) -> Result<(), NoMemory>
+) -> Result<(), Failure>
     ensures { OnOk result (found.new.items ≡ found.old.items ++ branches_sites (env scope.now) at (arms_of arms.now)) }
 {
     for arm in arms {
@@ -383,7 +383,7 @@ fn add_branch(
     at: TypingContext,
     arm: &TypedArm,
     found: &mut Vec<(u32, u32)>,
-) -> Result<(), NoMemory>
+) -> Result<(), Failure>
     ensures { OnOk result (found.new.items
         ≡ found.old.items ++ stmts_sites (env scope.now) (in_branch (arm_of arm.now).0 at) (arm_of arm.now).2) }
 {

@@ -14,7 +14,7 @@ use crate::forms::is_test;
 use sa_ast::FaultKind;
 use sa_typed::{LoopExit, TypedArm, TypedBranch, TypedExpr, TypedStmt};
 
-/// Whether statements are well typed at their place.
+/// Whether statements are well typed in their context.
 #[tactic(auto, using(crate::proofs::Blocks::blocks))]
 #[cycle(well)]
 pub(crate) fn well_stmts(scope: &TypingEnv<'_>, at: TypingContext, list: &[TypedStmt]) -> bool
@@ -104,7 +104,7 @@ fn are_tests(scope: &TypingEnv<'_>, at: TypingContext, list: &[TypedExpr]) -> bo
     true
 }
 
-/// Whether the entries of an `if` are well typed.
+/// Whether the arms of an `if` are well typed.
 #[tactic(auto, using(crate::proofs::Blocks::blocks))]
 #[cycle(well)]
 fn well_tests(scope: &TypingEnv<'_>, at: TypingContext, list: &[TypedBranch]) -> bool
@@ -118,7 +118,7 @@ fn well_tests(scope: &TypingEnv<'_>, at: TypingContext, list: &[TypedBranch]) ->
     true
 }
 
-/// Whether an entry of an `if` is.
+/// Whether an arm of an `if` is.
 #[tactic(auto, using(sa_typed::proofs::Copies::copies))]
 #[cycle(well)]
 fn well_test(scope: &TypingEnv<'_>, at: TypingContext, entry: &TypedBranch) -> bool
@@ -128,7 +128,7 @@ fn well_test(scope: &TypingEnv<'_>, at: TypingContext, entry: &TypedBranch) -> b
     are_tests(scope, at, entry.tests.as_slice()) && well_stmts(scope, at, entry.body.as_slice())
 }
 
-/// Whether what leaves a loop is well typed.
+/// Whether what exits a loop is well typed.
 fn well_exit(scope: &TypingEnv<'_>, at: TypingContext, left: &LoopExit) -> bool
     ensures { result ≡ well_exit (env scope.now) at (exit_of left.now) }
 {
@@ -182,7 +182,7 @@ fn is_branch_variable(scope: &TypingEnv<'_>, tested: u32, branch: u32, var: u32)
     }
 }
 
-/// The type that the tested variable has in a branch: its own where this is below the type of the branch, else the type of the
+/// The type that the tested variable has in a branch: its own where this is a subtype of the type of the branch, else the type of the
 /// branch.
 fn narrowed(scope: &TypingEnv<'_>, tested: u32, branch: u32) -> u32
     ensures { result ≡ narrowed (env scope.now) tested branch }
@@ -219,7 +219,7 @@ fn well_branch(scope: &TypingEnv<'_>, at: TypingContext, arm: &TypedArm) -> bool
     scope.view.is_type(arm.ty) && well_stmts(scope, at.in_branch(arm.ty), arm.body.as_slice())
 }
 
-/// Whether what is given back is of the type of the result, or there is neither.
+/// Whether the returned value is of the type of the result, or there is neither.
 fn gives_back(scope: &TypingEnv<'_>, at: TypingContext, value: &Option<TypedExpr>) -> bool
     ensures { result ≡ gives_back (env scope.now) at (option_expr_of value.now) }
 {
@@ -230,7 +230,7 @@ fn gives_back(scope: &TypingEnv<'_>, at: TypingContext, value: &Option<TypedExpr
     }
 }
 
-/// Whether a stop is by one of the kinds of faults that statements make.
+/// Whether a fault is of one of the kinds with which statements stop the program.
 fn is_end(kind: FaultKind) -> bool
     ensures { result ≡ is_end kind }
 {

@@ -1,4 +1,4 @@
-//! What a target of a class takes and gives: a feature, a built-in one, or a side of an attribute or a shared.
+//! The parameters and result of a target of a class: a feature, a built-in one, or the reader or writer of an attribute or a shared.
 
 ghost use Rattle.std.specs.Prelude.{◌≡◌, option_and_then, slice_get};
 ghost use Rattle.sa_typing.specs.Rows.{rows};
@@ -13,7 +13,7 @@ use sa_ast::Mode;
 use sa_prelude::BuiltinFeature;
 use sa_typed::{Target, TypedFeature};
 
-/// How many arguments a target of a class takes. There is no answer where it is none of the class.
+/// How many parameters a target of a class has, or `None` where it is none of the class.
 pub(crate) fn target_arity(view: &TypingView<'_>, class: u32, target: Target) -> Option<usize>
     ensures { result ≡ target_arity (rows view.now) class target }
 {
@@ -34,7 +34,7 @@ fn count_if(count: usize, test: bool) -> Option<usize>
     if test { Some(count) } else { None }
 }
 
-/// How many arguments a feature takes, where it is one of the class.
+/// How many parameters a feature has, where it is one of the class.
 fn feature_arity(feature: &TypedFeature, class: u32) -> Option<usize>
     ensures { result ≡ feature_arity feature.now class }
 {
@@ -51,7 +51,7 @@ fn shared_type(view: &TypingView<'_>, number: u32) -> Option<u32>
     }
 }
 
-/// A parameter of a target of a class.
+/// The parameter of a target of a class at an index, or `None` where it has none.
 pub fn target_parameter(
     view: &TypingView<'_>,
     class: u32,
@@ -114,7 +114,7 @@ fn in_parameter(ty: Option<u32>) -> Option<ParamType>
     }
 }
 
-/// The number of the type of what a target of a class gives, if it gives something.
+/// The number of the type of the result of a target of a class, or `None` where it gives nothing.
 pub fn target_result(view: &TypingView<'_>, class: u32, target: Target) -> Option<u32>
     ensures { result ≡ target_result (rows view.now) class target }
 {
@@ -137,7 +137,7 @@ fn feature_result(view: &TypingView<'_>, number: u32) -> Option<u32>
     }
 }
 
-/// The writer of an attribute gives a changed copy of an immutable value, and nothing of an object.
+/// The writer of an attribute gives a changed copy of an immutable value, and nothing for an object.
 fn set_result(view: &TypingView<'_>, class: u32) -> Option<u32>
     ensures { result ≡ set_result (rows view.now) class }
 {

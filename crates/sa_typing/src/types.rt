@@ -1,4 +1,4 @@
-//! Whether the types of a program are well formed, each by itself: its kind, its attributes, and which types it is below.
+//! Whether the types of a program are well formed, each by itself: its kind, its attributes, and its supertypes.
 
 ghost use Rattle.std.specs.Prelude.{◌≡◌, IfOk, None, nat_eq};
 ghost use Rattle.std.specs.Cmp.Lexicographic.{pointwise};
@@ -17,15 +17,16 @@ use crate::features::{are_types, is_type_or_none};
 use crate::view::{
     TypingView, call_type_at, is_abstract_kind, is_immutable_kind, is_reference_kind,
 };
-use sa_ast::{ClassKind, Mode, NoMemory, Ty};
+use failure::{Failure, Invariant};
+use sa_ast::{ClassKind, Mode, Ty};
 use sa_graph::word;
+use sa_subst::is_abstract;
 use sa_typed::TypeDef;
-use sa_types::is_abstract;
 use std::alloc::Global;
 
 /// Whether all types are well formed.
 #[tactic(auto, using(crate::proofs::Listed::types))]
-pub(crate) fn well_types(alloc: Global, view: &TypingView<'_>) -> Result<bool, NoMemory>
+pub(crate) fn well_types(alloc: Global, view: &TypingView<'_>) -> Result<bool, Failure>
     ensures { IfOk result (λ well. well ≡ well_types (rows view.now) 0 view.now.types.now) }
 {
     for (number, info) in view.types.iter().enumerate() {
@@ -41,11 +42,11 @@ fn well_type(
     view: &TypingView<'_>,
     number: usize,
     info: &TypeDef,
-) -> Result<bool, NoMemory>
+) -> Result<bool, Failure>
     ensures { IfOk result (λ well. well ≡ well_type (rows view.now) number info.now) }
 {
     let above = info.above.as_slice();
-    let closed = is_closed(alloc, view, word(number)?, above)?;
+    let closed = is_closed(alloc, view, word(number, Invariant::CheckedCount)?, above)?;
     Ok(
         fits_kind(view, number, info)
             && has_layout(view, info)
@@ -55,9 +56,9 @@ fn well_type(
     )
 }
 
-/// Whether what is above the types above a type holds its values too. It is so where one of them has all the others above it, if it
-/// is so of that one.
-fn is_closed(alloc: Global, view: &TypingView<'_>, ty: u32, above: &[u32]) -> Result<bool, NoMemory>
+/// Whether the supertypes of a type's supertypes are its supertypes too. This is so where one of them has all the others as supertypes, if
+/// it is so of that one.
+fn is_closed(alloc: Global, view: &TypingView<'_>, ty: u32, above: &[u32]) -> Result<bool, Failure>
     ensures { IfOk result (λ closed. closed ≡ is_closed (rows view.now) ty above.now) }
 {
     if has_next(alloc, view, above, above)? {
@@ -67,14 +68,14 @@ fn is_closed(alloc: Global, view: &TypingView<'_>, ty: u32, above: &[u32]) -> Re
     Ok(have_supertypes_in(view, holders.as_slice(), above))
 }
 
-/// Whether for one of the types in a list, it and those above it are these.
+/// Whether, for one of the types in a list, it and its proper supertypes are these.
 #[tactic(auto, using(crate::proofs::Listed::uppers))]
 fn has_next(
     alloc: Global,
     view: &TypingView<'_>,
     above: &[u32],
     list: &[u32],
-) -> Result<bool, NoMemory>
+) -> Result<bool, Failure>
     ensures { IfOk result (λ found. found ≡ has_next (rows view.now) above.now list.now) }
 {
     for upper in list {
@@ -85,13 +86,8 @@ fn has_next(
     Ok(false)
 }
 
-/// Whether a type and those above it are these.
-fn is_next(
-    alloc: Global,
-    view: &TypingView<'_>,
-    above: &[u32],
-    upper: u32,
-) -> Result<bool, NoMemory>
+/// Whether a type and its proper supertypes are these.
+fn is_next(alloc: Global, view: &TypingView<'_>, above: &[u32], upper: u32) -> Result<bool, Failure>
     ensures { IfOk result (λ is. is ≡ is_next (rows view.now) above.now upper) }
 {
     match view.types.get(upper as usize) {
@@ -100,9 +96,9 @@ fn is_next(
     }
 }
 
-/// Whether a type with this number and those above it are these.
+/// Whether a type with this number and its proper supertypes are these.
 #[tactic(auto, unfolding(crate::specs::Types::makes_up))]
-fn makes_up(alloc: Global, upper: u32, above: &[u32], info: &TypeDef) -> Result<bool, NoMemory>
+fn makes_up(alloc: Global, upper: u32, above: &[u32], info: &TypeDef) -> Result<bool, Failure>
     ensures { IfOk result (λ is. is ≡ makes_up upper above.now info.now) }
 {
     let own = info.above.as_slice();
@@ -174,9 +170,9 @@ fn has_layout(view: &TypingView<'_>, info: &TypeDef) -> bool
         && (!info.array || is_reference_kind(info.kind))
 }
 
-/// The types that hold the values of a type, rising: itself and those above it.
+/// The supertypes of a type in ascending order, itself among them.
 #[tactic(auto, using(crate::proofs::Listed::holders))]
-fn holders(alloc: Global, ty: u32, above: &[u32]) -> Result<Vec<u32>, NoMemory>
+fn holders(alloc: Global, ty: u32, above: &[u32]) -> Result<Vec<u32>, Failure>
     ensures { IfOk result (λ list. list.items ≡ put_in ty above.now) }
 {
     let mut list = Vec::new(alloc);
@@ -219,7 +215,7 @@ pub(crate) fn is_after(last: Option<u32>, item: u32) -> bool
     }
 }
 
-/// Whether these types may be above one.
+/// Whether these types may be supertypes of one.
 #[tactic(auto, using(crate::proofs::Listed::uppers))]
 fn are_valid_supertypes(view: &TypingView<'_>, number: usize, list: &[u32]) -> bool
     ensures { result ≡ are_valid_supertypes (rows view.now) number list.now }
@@ -232,14 +228,14 @@ fn are_valid_supertypes(view: &TypingView<'_>, number: usize, list: &[u32]) -> b
     true
 }
 
-/// Whether a type may be above another: it is abstract, or a bound type for whose values those of the other may stand.
+/// Whether a type may be a supertype of another: it is abstract, or a bound type for whose values those of the other may be used.
 fn is_valid_supertype(view: &TypingView<'_>, number: usize, upper: u32) -> bool
     ensures { result ≡ is_valid_supertype (rows view.now) number upper }
 {
     view.is_abstract(upper) || is_bound_supertype(view, number, upper)
 }
 
-/// Whether all that is above the types in a list is among these.
+/// Whether all proper supertypes of the types in a list are among these.
 #[tactic(auto, using(crate::proofs::Listed::uppers))]
 fn have_supertypes_in(view: &TypingView<'_>, holders: &[u32], list: &[u32]) -> bool
     ensures { result ≡ have_supertypes_in (rows view.now) holders.now list.now }
@@ -252,7 +248,7 @@ fn have_supertypes_in(view: &TypingView<'_>, holders: &[u32], list: &[u32]) -> b
     true
 }
 
-/// Whether all that is above a type is among these.
+/// Whether all proper supertypes of a type are among these.
 fn has_supertypes_in(view: &TypingView<'_>, holders: &[u32], upper: u32) -> bool
     ensures { result ≡ has_supertypes_in (rows view.now) holders.now upper }
 {
@@ -262,7 +258,7 @@ fn has_supertypes_in(view: &TypingView<'_>, holders: &[u32], upper: u32) -> bool
     }
 }
 
-/// Whether a list is a part of another, in the same order.
+/// Whether a list is a sublist of another, in the same order.
 #[tactic(auto, using(crate::proofs::Listed::parts))]
 fn is_part(part: &[u32], whole: &[u32]) -> bool
     ensures { result ≡ is_part part.now whole.now }
@@ -276,7 +272,7 @@ fn is_part(part: &[u32], whole: &[u32]) -> bool
     found == part.len()
 }
 
-/// Whether values of a bound type may stand for those of another.
+/// Whether values of a bound type may be used as those of another.
 fn is_bound_supertype(view: &TypingView<'_>, number: usize, upper: u32) -> bool
     ensures { result ≡ is_bound_supertype (rows view.now) number upper }
 {
@@ -339,7 +335,7 @@ fn is_result_alike(view: &TypingView<'_>, lower: Option<u32>, upper: Option<u32>
     }
 }
 
-/// Whether a type is another or below it, without a change of how its values look: where they differ, neither is immutable.
+/// Whether a type is another or a subtype of it, with the same representation of values: where they differ, neither is immutable.
 fn is_alike(view: &TypingView<'_>, lower: u32, upper: u32) -> bool
     ensures { result ≡ is_alike (rows view.now) lower upper }
 {
@@ -349,7 +345,7 @@ fn is_alike(view: &TypingView<'_>, lower: u32, upper: u32) -> bool
             && view.is_strict_supertype(upper, lower))
 }
 
-/// Whether the types whose numbers are the same in each program are those that they have to be.
+/// Whether the types that have the same numbers in each program are what they have to be.
 pub(crate) fn well_base_types(view: &TypingView<'_>) -> bool
     ensures { result ≡ well_base_types (rows view.now) }
 {

@@ -1,4 +1,4 @@
-//! The trial of a typed tree.
+//! The verifier of typed programs.
 
 ghost use Rattle.std.specs.Prelude.{◌≡◌, ◌↔◌, IfOk, IsTrue, map};
 ghost use Rattle.sa_typing.specs.Rows.{rows};
@@ -12,41 +12,41 @@ use crate::layout::is_acyclic;
 use crate::signatures::well_signatures;
 use crate::types::{well_base_types, well_types};
 use crate::view::TypingView;
-use sa_ast::NoMemory;
+use failure::Failure;
 use sa_typed::TypedProgram;
 use std::alloc::Global;
 
-/// Whether a typed tree is well typed.
+/// Whether a program is well typed.
 ///
 /// # Errors
 ///
-/// `NoMemory`.
+/// A `Failure`.
 #[tactic(auto, using(crate::proofs::Parts::rows))]
-pub fn is_well_typed(alloc: Global, core: &TypedProgram) -> Result<bool, NoMemory>
+pub fn is_well_typed(alloc: Global, core: &TypedProgram) -> Result<bool, Failure>
     ensures { IfOk result (λ well. IsTrue well ↔ IsWellTyped core.now) }
 {
     let shapes = CallTypes::of(alloc, core)?;
     are_well_typed(alloc, &shapes.view(core), core.main)
 }
 
-/// What calls of the bound types and the signatures of a tree take and give.
+/// The call types of the bound types and the signatures of a program.
 #[derive(Drop)]
 pub struct CallTypes {
     /// By type, where it is a bound type.
     pub bound: Vec<Option<CallType>>,
     /// By signature.
     pub signatures: Vec<Option<CallType>>,
-    /// The number of ARRAY{CHAR}, where it is a type of the tree.
+    /// The number of ARRAY{CHAR}, where it is a type of the program.
     pub characters: Option<u32>,
 }
 
 impl CallTypes {
-    /// Those of a tree.
+    /// The call types of a program.
     ///
     /// # Errors
     ///
-    /// `NoMemory`.
-    pub fn of(alloc: Global, core: &TypedProgram) -> Result<CallTypes, NoMemory>
+    /// A `Failure`.
+    pub fn of(alloc: Global, core: &TypedProgram) -> Result<CallTypes, Failure>
         ensures { IfOk result (AreCallTypes core.now) }
     {
         let types = core.types.as_slice();
@@ -58,7 +58,7 @@ impl CallTypes {
         })
     }
 
-    /// The tree by its rows.
+    /// The program as its tables.
     pub fn view<'a>(&'a self, core: &'a TypedProgram) -> TypingView<'a>
         requires { AreCallTypes core.now self.now }
         ensures { rows result ≡ rows_of core.now }
@@ -75,9 +75,9 @@ impl CallTypes {
     }
 }
 
-/// Whether a tree with these rows is, which runs this feature.
+/// Whether a program with these tables, of which this feature is run, is well typed.
 #[tactic(auto, using(crate::proofs::Parts::parts))]
-fn are_well_typed(alloc: Global, view: &TypingView<'_>, main: u32) -> Result<bool, NoMemory>
+fn are_well_typed(alloc: Global, view: &TypingView<'_>, main: u32) -> Result<bool, Failure>
     ensures { IfOk result (λ well. IsTrue well ↔ AreWellTyped (rows view.now) main) }
 {
     if !well_base_types(view) {

@@ -1,4 +1,4 @@
-//! The rows of a typed tree, as its trial reads them.
+//! The tables of a program, as the verifier reads them.
 
 ghost use Rattle.std.specs.Prelude.{◌≡◌, option_copied};
 ghost use Rattle.sa_typing.specs.Rows.{attribute, element_of, has_supertype, has_array, has_objects, is_supertype, is_abstract, is_abstract_kind};
@@ -10,7 +10,7 @@ use crate::expr_type::ExprType;
 use sa_ast::ClassKind;
 use sa_typed::{TypeDef, TypedFeature, TypedShared, TypedSignature};
 
-/// The types, features, shareds and signatures of a typed tree, with the shapes of its bound types and signatures.
+/// The types, features, shareds and signatures of a program, with the call types of its bound types and signatures.
 #[derive(Clone, Copy)]
 pub struct TypingView<'a> {
     pub types: &'a [TypeDef],
@@ -97,7 +97,7 @@ impl TypingView<'_> {
         }
     }
 
-    /// Whether the first type is one of those that the other is below.
+    /// Whether the first type is one of the proper supertypes of the other.
     pub(crate) fn is_strict_supertype(&self, ty: u32, other: u32) -> bool
         ensures { result ≡ is_strict_supertype (rows self.now) ty other }
     {
@@ -107,14 +107,14 @@ impl TypingView<'_> {
         }
     }
 
-    /// Whether the first type is the other one, or above it.
+    /// Whether the first type is the other one, or a supertype of it.
     pub fn is_supertype(&self, ty: u32, other: u32) -> bool
         ensures { result ≡ is_supertype (rows self.now) ty other }
     {
         ty == other || self.is_strict_supertype(ty, other)
     }
 
-    /// Whether what is given may stand where this type is wanted.
+    /// Whether an expression of this type is assignable to that type.
     pub(crate) fn is_assignable(&self, given: ExprType, ty: u32) -> bool
         ensures { result ≡ is_assignable (rows self.now) given ty }
     {
@@ -128,7 +128,7 @@ impl TypingView<'_> {
     }
 }
 
-/// Whether a type is one of those that another is below.
+/// Whether a type is one of the proper supertypes of another.
 #[tactic(auto, unfolding(crate::specs::Rows::has_supertype))]
 pub(crate) fn has_supertype(ty: u32, info: &TypeDef) -> bool
     ensures { result ≡ has_supertype ty info.now }
@@ -154,7 +154,7 @@ pub(crate) fn is_reference_kind(kind: ClassKind) -> bool
     matches!(kind, ClassKind::Reference)
 }
 
-/// The shape at a place, where there is one.
+/// The call type at an index, where there is one.
 pub(crate) fn call_type_at(list: &[Option<CallType>], place: usize) -> Option<&CallType>
     ensures { option_copied result ≡ call_type_at list.now place }
 {

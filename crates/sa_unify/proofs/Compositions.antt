@@ -1,4 +1,4 @@
--- A pair of types after another: where its parts are known, what the two give is what the joined nodes give.
+-- Composition of two pairs: where the parts of their nodes are known, it is what unification of the joined nodes gives.
 use Rattle.std.proofs.Common.{◌≡◌, ◌≢◌, ℕ, suc, ◌+◌, ◌-◌, ◌<◌, ◌≤◌, List, [], ◌∷◌, ◌++◌, Option, Some, None, length, get_or, take, drop, refl, sym, ap, subst, ◌∙◌, arith, add-one, drop-cons}
 use Rattle.std.proofs.lemmas.List.{append_cancel_right, take-append-drop, take_all, length-drop}
 use Rattle.sa_unify.specs.declared.pattern.Node.{Node}
@@ -10,7 +10,7 @@ use Rattle.sa_unify.proofs.Terms.{behind_none, following-append, following-split
 some_lists : (l m : List Node) → Some l ≡ Some m → l ≡ m
 some_lists l m e = cc
 
--- so many terms that begin one list are equal, and so is what follows
+-- if n terms begin one list each and the lists are equal, the terms are equal, and so is what follows
 pub same_terms : (w u r s : List Node) (n : ℕ) → following w n ≡ Some [] → following u n ≡ Some [] → w ++ r ≡ u ++ s → (w ≡ u) × (r ≡ s)
 same_terms w u r s n h k e =
     let zero_more : n ≡ n + 0 = omega arith in
@@ -19,7 +19,7 @@ same_terms w u r s n h k e =
     let rests : r ≡ s = some_lists r s (sym left ∙ ap (λ l. following l n) e ∙ right) in
     (append_cancel_right w u s (subst (λ l. w ++ l ≡ u ++ s) rests e), rests)
 
--- so many terms at the head of a list are what was taken off it
+-- n terms at the head of a list are what was taken off it
 terms-taken : (w rest : List Node) (n : ℕ) → following (w ++ rest) n ≡ Some rest → following w n ≡ Some []
 terms-taken w rest n h =
     let split = following-split (w ++ rest) rest n h in
@@ -44,7 +44,7 @@ module _ (below ends begins above : List Node) (name : List ℕ) (n m : ℕ) (te
   substitute-second : (values : Values) → substitute values (node.List m ∷ begins ++ above) ≡ node.List m ∷ substitute values begins ++ substitute values above
   substitute-second values = ap (λ l. node.List m ∷ l) (substitute-append values begins above)
 
-  -- where the second follows the first, the counts are equal, and the arguments meet
+  -- if the second follows the first, the counts are equal, and the arguments are unified
   meets : (lower upper : Values) → AreTerms lower → AreTerms upper → (f : List Node) → Follows (substitute lower (below ++ node.Class name n ∷ ends)) (substitute upper (node.List m ∷ begins ++ above)) f → (n ≡ m) × (substitute lower ends ≡ substitute upper begins) × (f ≡ substitute lower below ++ substitute upper above)
   meets lower upper g k f t =
       let first = same_terms (substitute lower below) t.lower (node.Class name n ∷ substitute lower ends) (node.Class t.name t.count ∷ t.args) 1 (substitute-term lower below g term) t.term (sym (substitute-first lower) ∙ t.begins) in
@@ -101,7 +101,7 @@ composed_joined first second below ends begins above name n m r f w s ws same j 
 
 -- ---- the cuts
 
--- all that is behind a place
+-- all that is after an index
 pub rest-of : (l : List Node) (k : ℕ) → take (length l - k) (drop k l) ≡ drop k l
 rest-of l k = let all : length (drop k l) ≤ length l - k = omega (arith, length-drop k l) in take_all (length l - k) (drop k l) all
 
@@ -118,7 +118,7 @@ cut-second nodes end count a h least k e is =
     let inside : following (drop 1 nodes) count ≡ Some (drop end nodes) = ap (following (drop 1 nodes)) (sym plus) ∙ ap (λ l. following l 1) (sym whole) ∙ h in
     (whole ∙ ap (λ l. node.List count ∷ l) (sym rest), terms-taken (take (end - 1) (drop 1 nodes)) (drop end nodes) count (ap (λ l. following l count) rest ∙ inside))
 
--- ---- the same from what is known of two lists at the places where they are cut
+-- ---- the same from what is known of two lists at the indices where they are cut
 
 module _ (first second : List Node) (one two : ℕ) (a b : Node) (name : List ℕ) (n m : ℕ) (ends_one : following (drop 0 first) 1 ≡ Some (drop one first)) (ends_two : following (drop 0 second) 1 ≡ Some (drop two second)) (within : one ≤ length first) (left : one ≢ length first) (within_other : two ≤ length second) (some_terms : two ≢ 0) (at_one : a ≡ get_or first one a) (is_class : a ≡ node.Class name n) (at_first : b ≡ get_or second 0 b) (is_list : b ≡ node.List m) where
   cut_one : (first ≡ take one first ++ node.Class name n ∷ drop (one + 1) first) × IsTerm (take one first)

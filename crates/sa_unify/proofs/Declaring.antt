@@ -11,7 +11,7 @@ use Rattle.sa_ast.specs.declared.ty.Ty.{Ty}
 use Rattle.sa_ast.specs.declared.ty.Ty.TheVariants as ty
 use Rattle.sa_ast.specs.Types.{Named, all_bare, bare}
 use Rattle.sa_ast.proofs.BareTypes.{bare-Named, bare-Same, bare-Rout, bare-Iter}
-use Rattle.sa_types.specs.Substitution.{place_of}
+use Rattle.sa_subst.specs.Substitution.{place_of}
 use Rattle.sa_unify.specs.declared.header.Header.{Header}
 use Rattle.sa_unify.specs.declared.names.Names.{Names}
 use Rattle.sa_unify.specs.declared.pattern.Node.{Node}
@@ -45,7 +45,7 @@ module _ (header : Header) where
   pub class_number-Iter : (args : List ModeTy) (of : Option Ty) (pos : Pos) → class_number_in header (ty.Iter args of pos) ≡ None
   class_number-Iter args of pos = ap (class_number (numbers_in header) (place_in header) header.class header.name.now header.arity) (bare-Iter args of pos)
 
-  -- ---- the arguments of a lower type
+  -- ---- the arguments of a subtype
 
   pub lower-Named : (name : List ℕ) (types : List Ty) (pos : Pos) → lower_in header (ty.Named name types pos) ≡ node.List (length types) ∷ flat_map (ty_nodes header) types
   lower-Named name types pos =
@@ -141,7 +141,7 @@ pub ruleset class_steps = (add-none, add-other, add-own, upto-more)
 
 pub ruleset edge_steps = (below-none, below-some, above-none, above-some)
 
--- the edges below a class and those above it
+-- the edges of a class as the subtype and as the supertype
 pub edges-both : (header : Header) (c : Class) (old one new : List EdgeNodes) (lowers uppers : List Ty) → lowers ≡ c.below → one ≡ old ++ flat_map (below_edge header) lowers → uppers ≡ c.above → new ≡ one ++ flat_map (above_edge header) uppers → new ≡ old ++ header_edges header c
 edges-both header c old one new lowers uppers e first f second =
     second

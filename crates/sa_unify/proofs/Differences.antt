@@ -1,4 +1,4 @@
--- What is to be done at the first difference of two lists of nodes.
+-- The step at the first difference of two lists of nodes.
 use Rattle.std.proofs.Common.{◌≡◌, ◌≢◌, ℕ, ◌+◌, ◌-◌, ◌≤◌, true, List, [], ◌∷◌, ◌++◌, Some, None, length, take, drop, refl, sym, ap, subst, ◌∙◌, arith, length-drop}
 use Rattle.std.proofs.Math.Seq.{take-length}
 use Rattle.std.proofs.lemmas.List.{drop-drop, take-append-drop}
@@ -95,7 +95,7 @@ step-Never one other place same differ h k left right v w = record {
 
 pub ruleset steps = (step-Equal, step-bound, step-bound_other, step-Never)
 
--- ---- the term at a place
+-- ---- the term at an index
 
 pub slice-rest : (nodes : List Node) (place end : ℕ) → place ≤ end → take (end - place) (drop place nodes) ++ drop end nodes ≡ drop place nodes
 slice-rest nodes place end h =

@@ -1,4 +1,4 @@
--- The classes between which edges lead, one edge after the other.
+-- The classes between which edges lead, edge by edge.
 use Rattle.std.proofs.Common.{◌≡◌, ℕ, ◌+◌, ◌<◌, List, [], ◌∷◌, ◌++◌, length, map, get_or, take, sym, ap, ◌∙◌}
 use Rattle.std.proofs.lemmas.List.{map-append, take_more}
 use Rattle.sa_unify.specs.declared.declared.Edge.{Edge}

@@ -21,7 +21,7 @@ variables-more n = ap variables (add-one n)
 pub append-one : (xs ys : List Node) (a : Node) → (xs ++ a ∷ []) ++ ys ≡ xs ++ a ∷ ys
 append-one xs ys a = append_assoc xs (a ∷ []) ys
 
--- a node and two parts behind it
+-- a node and two parts after it
 pub append-parts : (xs ys zs : List Node) (a : Node) → ((xs ++ a ∷ []) ++ ys) ++ zs ≡ xs ++ a ∷ ys ++ zs
 append-parts xs ys zs a = simp append_assoc
 
@@ -83,7 +83,7 @@ module _ (header : Header) where
       ∙ ap (λ k. node.Iter k ∷ written_args (place_in header) (own_in header) (all_bare_args args) ++ written_result (place_in header) (own_in header) (option_bare of)) (counts args of)
       ∙ ap (λ l. node.Iter (2 * length args + count_of of) ∷ l) (parts args of)
 
-  -- the nodes of such a type, one part after the other
+  -- the nodes of such a type, part by part
   pub spelled-Rout : (old one two new : List Node) (t : Ty) (args s l : List ModeTy) (of : Option Ty) (pos : Pos) (k : ℕ) → t ≡ ty.Rout args of pos → one ≡ old ++ node.Routine k ∷ [] → k ≡ 2 * length s + count_of of → s ≡ args → l ≡ args → two ≡ one ++ flat_map (arg_nodes header) l → new ≡ two ++ result_nodes header of → new ≡ old ++ ty_nodes header t
   spelled-Rout old one two new t args s l of pos k et first count es el second third =
       third
@@ -95,7 +95,7 @@ module _ (header : Header) where
       ∙ ap (λ x. old ++ x) (sym (ty_nodes-Rout args of pos))
       ∙ ap (λ x. old ++ ty_nodes header x) (sym et)
 
-  -- the nodes of such a type, one part after the other
+  -- the nodes of such a type, part by part
   pub spelled-Iter : (old one two new : List Node) (t : Ty) (args s l : List ModeTy) (of : Option Ty) (pos : Pos) (k : ℕ) → t ≡ ty.Iter args of pos → one ≡ old ++ node.Iter k ∷ [] → k ≡ 2 * length s + count_of of → s ≡ args → l ≡ args → two ≡ one ++ flat_map (arg_nodes header) l → new ≡ two ++ result_nodes header of → new ≡ old ++ ty_nodes header t
   spelled-Iter old one two new t args s l of pos k et first count es el second third =
       third

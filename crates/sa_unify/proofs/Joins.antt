@@ -1,4 +1,5 @@
--- Two pairs, one after the other: their variables are kept apart by numbers, and what makes the end of the first equal to the beginning of the second is terms for both.
+-- Composition of two pairs: their variables are kept apart by numbers, and a unifier of the end of the first and the beginning of the
+-- second is terms for both.
 use Rattle.std.proofs.Common.{◌≡◌, ℕ, zero, suc, ◌+◌, ◌<◌, ◌≤◌, List, ◌++◌, Option, Some, None, sym, ap, refl, subst, ◌∙◌, arith}
 use Rattle.std.specs.Prelude.{max}
 use Rattle.std.proofs.lemmas.List.{append-nil}
@@ -7,7 +8,7 @@ use Rattle.sa_unify.specs.Terms.{Values, AreTerms, substitute, later, free, IsUn
 use Rattle.sa_unify.proofs.Places.{free-over}
 use Rattle.sa_unify.proofs.Terms.{substitute-append, substitute-twice, substitute-same}
 
--- the variables below a number stand for the first terms, and those from it on for the second
+-- the variables less than a number stand for the first terms, and those from it on for the second
 pick : ℕ → Values → Values → Values
 pick zero lower upper k = upper k
 pick (suc n) lower upper zero = lower zero

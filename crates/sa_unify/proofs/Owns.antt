@@ -7,14 +7,14 @@ use Rattle.sa_unify.specs.Spelled.{count_types, variables, own_nodes, spelled, s
 use Rattle.sa_unify.proofs.Terms.{substitute-append, following-append, following-substitute}
 use Rattle.sa_unify.proofs.Readings.{term-node, read-node, read-term}
 
--- ---- the types at places
+-- ---- the types at indices
 
 abbrev pub type_at : BareTys → ℕ → BareTy
 type_at no_types k = Same
 type_at (type t more) zero = t
 type_at (type t more) (suc k) = type_at more k
 
--- what is read of the terms up to a number
+-- what is read of the terms less than a number
 abbrev pub readings : Values → ℕ → BareTys
 readings values zero = no_types
 readings values (suc n) = type (read_type (values 0)) (readings (λ k. values (suc k)) n)
@@ -48,7 +48,7 @@ substitute-variables-more values (suc n) =
     ∙ append_assoc (values 0) (substitute (λ k. values (suc k)) (variables n)) (substitute values (node.Variable (suc n) ∷ []))
     ∙ ap (λ l. values 0 ++ l) (sym (substitute-append (λ k. values (suc k)) (variables n) (node.Variable n ∷ [])))
 
--- where each term spells a type, they spell the types
+-- if each term spells a type, they spell the types
 pub substitute-variables : (values : Values) (ts : BareTys) → ((k : ℕ) → k < count_types ts → values k ≡ spelled (type_at ts k)) → substitute values (variables (count_types ts)) ≡ spelled_all ts
 substitute-variables values no_types h = refl
 substitute-variables values (type t more) h =

@@ -1,4 +1,5 @@
--- The nodes of a declared edge at an instance: with the terms that spell the types of an instance they spell the two types of the edge there, and with any terms they are read as the two types at what is read of the terms.
+-- The nodes of a declared edge at an instance: with the terms that spell the types of an instance they spell the two types of the edge
+-- there, and with any terms they are read as the two types at what is read of the terms.
 use Rattle.std.proofs.Common.{◌≡◌, ℕ, ◌+◌, ◌<◌, List, [], ◌∷◌, ◌++◌, Option, None, Some, refl, sym, ap, ◌∙◌, arith}
 use Rattle.std.proofs.lemmas.List.{append-nil, append_cancel_right}
 use Rattle.std.specs.Option.{option_map}
@@ -12,7 +13,7 @@ use Rattle.sa_unify.proofs.Terms.{behind_none, following-append, following-subst
 use Rattle.sa_unify.proofs.Spelling.{count-instance_all, written_all-terms, substitute-written, substitute-written_all, read-written, read-written_all, spelled-term}
 use Rattle.sa_unify.proofs.Owns.{type_at, readings, type_at-readings, own-term, substitute-variables, substitute-variables-terms, read-variables, substitute-own, read-own}
 
--- ---- two ways to part the nodes are one
+-- ---- two ways to split the nodes are one
 
 list_counts : (m n : ℕ) (l k : List Node) → node.List m ∷ l ≡ node.List n ∷ k → m ≡ n
 list_counts m n l k e = cc
@@ -46,7 +47,7 @@ parts-equal m n a l b x h k e =
 -- ---- the header of a class
 
 module _ (place : List ℕ → Option ℕ) (name : List ℕ) (arity : ℕ) (within : (m : List ℕ) (k : ℕ) → place m ≡ Some k → k < arity) where
-  -- what a name stands for at an instance, and the type that a type of the header is
+  -- the binding of a name at an instance, and the type that a type of the header is
   abbrev pub value_at : BareTys → List ℕ → Option BareTy
   value_at given m = option_map (type_at given) (place m)
 
@@ -122,7 +123,7 @@ module _ (place : List ℕ → Option ℕ) (name : List ℕ) (arity : ℕ) (with
     read-args args =
         read-written_all place (own_nodes name arity) (own-term name arity) values terms (value_at (readings values arity)) (Named name (readings values arity)) (λ m. read-alone (place m) m (within m)) (read-own values terms name arity) args
 
-    -- the nodes are the list of so many terms and then a term: the types that these are read as
+    -- the nodes are the list of n terms and then a term: the types that these are read as
     pub record ReadsAs (n : ℕ) (l x : List Node) (args : BareTys) (t : BareTy) : Type 0 where
       pub lower : read_types l n ≡ args
       pub upper : read_type x ≡ t

@@ -1,4 +1,4 @@
--- Lists of nodes from a place on.
+-- Lists of nodes from an index on.
 use Rattle.std.proofs.Common.{◌≡◌, ℕ, ◌+◌, ◌<◌, Bool, true, false, true≢false, ◌||◌, List, [], ◌∷◌, ◌++◌, length, get_or, take, drop, refl, sym, ap, subst, ◌∙◌, arith, add-one, drop-cons}
 use Rattle.std.specs.Prelude.{max}
 use Rattle.std.proofs.Math.Seq.{drop-length, take-suc}
@@ -20,15 +20,15 @@ differ-end : (l m : List Node) → m ≡ [] → Differ l m
 differ-end [] m e = tt
 differ-end (a ∷ l) m e = subst (Differ (a ∷ l)) (sym e) tt
 
--- the second list ends at the place
+-- the second list ends at the index
 pub differ-length : (one other : List Node) (i : ℕ) → i ≡ length other → Differ (drop i one) (drop i other)
 differ-length one other i e = differ-end (drop i one) (drop i other) (ap (λ n. drop n other) e ∙ drop-length other)
 
--- the first list ends at the place
+-- the first list ends at the index
 pub differ-length_one : (one other : List Node) → Differ (drop (length one) one) (drop (length one) other)
 differ-length_one one other = subst (λ l. Differ l (drop (length one) other)) (sym (drop-length one)) tt
 
--- the nodes at the place differ
+-- the nodes at the index differ
 pub differ-at : (one other : List Node) (i : ℕ) (a b : Node) → i < length one → i < length other → a ≡ get_or one i a → b ≡ get_or other i b → (a ≡ b → ⊥) → Differ (drop i one) (drop i other)
 differ-at one other i a b h k e f differ = rw (drop-cons one i a, drop-cons other i b, ← e, ← f) differ
 
@@ -50,7 +50,7 @@ after-over number (node.Iter count) e = absurd (true≢false (sym e))
 after-over number (node.Passed mode) e = absurd (true≢false (sym e))
 after-over number (node.List count) e = absurd (true≢false (sym e))
 
--- a variable among the nodes is below the free number
+-- a variable in the nodes is less than the free number
 pub free-over : (number : ℕ) (nodes : List Node) → comes number nodes ≡ true → number < free nodes
 free-over number [] h = absurd (true≢false (sym h))
 free-over number (a ∷ nodes) h = go (λ k. free-over number nodes k) (is_variable number a) refl

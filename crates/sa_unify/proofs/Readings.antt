@@ -1,4 +1,4 @@
--- How terms are read: a term is one item, and terms one after the other are read one by one.
+-- How terms are read: a term is one item, and terms in a row are read one by one.
 use Rattle.std.proofs.Common.{◌≡◌, ℕ, zero, suc, ◌+◌, ◌-◌, ◌≤◌, List, [], ◌∷◌, ◌++◌, Some, length, take, drop, refl, sym, ap, ◌∙◌, arith, length-drop}
 use Rattle.std.proofs.Math.ListN.{drop_of_length-le}
 use Rattle.std.proofs.Math.Seq.{take-length}
@@ -13,11 +13,11 @@ use Rattle.sa_unify.proofs.Terms.{following-append}
 not_empty : (a : Node) (w : List Node) → Some (a ∷ w) ≡ Some [] → ⊥
 not_empty a w e = cc
 
--- a term from the terms that its first node holds
+-- a term from the terms that are the children of its first node
 pub term-node : (a : Node) (nodes : List Node) → following nodes (held a) ≡ Some [] → IsTerm (a ∷ nodes)
 term-node a nodes h = let e : held a + 0 ≡ held a = omega arith in ap (following nodes) e ∙ h
 
--- so many terms are so many items
+-- n terms are n items
 pub length-read : (w : List Node) (k : ℕ) → following w k ≡ Some [] → length (read w k) ≡ k
 length-read [] zero h = refl
 length-read [] (suc k) h = absurd (none-some [] h)
@@ -27,7 +27,7 @@ length-read (a ∷ w) (suc k) h =
     let rest : length (drop (held a) (read w (held a + k))) ≡ length (read w (held a + k)) - held a = length-drop (held a) (read w (held a + k)) in
     omega (arith, more, rest)
 
--- the items of terms one after the other
+-- the items of terms in a row
 pub read-append : (w more : List Node) (k n : ℕ) → following w k ≡ Some [] → read (w ++ more) (k + n) ≡ read w k ++ read more n
 read-append [] more zero n h = let e : zero + n ≡ n = omega arith in ap (read more) e
 read-append [] more (suc k) n h = absurd (none-some [] h)
@@ -42,7 +42,7 @@ read-append (a ∷ w) more (suc k) n h =
     ∙ ap (λ l. made a l ∷ drop (held a) (read w (held a + k) ++ read more n)) (take-append-le (held a) (read w (held a + k)) (read more n) least)
     ∙ ap (λ l. made a (take (held a) (read w (held a + k))) ∷ l) (drop-append-le (held a) (read w (held a + k)) (read more n) least)
 
--- a term is what its first node makes of the terms that it holds
+-- a term is what its first node makes of its children
 pub read-node : (a : Node) (nodes : List Node) → following nodes (held a) ≡ Some [] → read (a ∷ nodes) 1 ≡ made a (read nodes (held a)) ∷ []
 read-node a nodes h =
     let e : held a + 0 ≡ held a = omega arith in
@@ -66,13 +66,13 @@ read-term w more n h =
     let e : suc n ≡ 1 + n = omega arith in
     ap (read (w ++ more)) e ∙ read-append w more 1 n h ∙ ap (λ l. l ++ read more n) (read-one w h)
 
--- a node that holds nothing at the head of terms is one item
+-- a node without children at the head of terms is one item
 pub read-single : (a : Node) (more : List Node) (n : ℕ) → held a ≡ 0 → read (a ∷ more) (suc n) ≡ made a [] ∷ read more n
 read-single a more n h =
     let e : 0 + n ≡ n = omega arith in
     ap (λ k. made a (take k (read more (k + n))) ∷ drop k (read more (k + n))) h ∙ ap (λ k. made a [] ∷ read more k) e
 
--- so many terms and then more of them
+-- n terms and then more of them
 pub following-term : (w more : List Node) (n : ℕ) → IsTerm w → following (w ++ more) (suc n) ≡ following more n
 following-term w more n h = let e : suc n ≡ 1 + n = omega arith in ap (following (w ++ more)) e ∙ following-append w more 1 n h
 

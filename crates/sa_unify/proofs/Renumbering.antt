@@ -1,4 +1,4 @@
--- Variables that are numbered anew: where the new numbers are taken back to the old ones, the instances are the same.
+-- Renumbered variables: if the new numbers have an inverse, the instances are the same.
 use Rattle.std.proofs.Common.{◌≡◌, ℕ, List, sym, ap, refl, ◌∙◌}
 use Rattle.sa_unify.specs.declared.pattern.Node.{Node}
 use Rattle.sa_unify.specs.Terms.{AreTerms, substitute, named, IsInstance, SameInstances}
@@ -7,7 +7,7 @@ use Rattle.sa_unify.proofs.Terms.{substitute-twice, substitute-terms}
 named-terms : (numbers : List ℕ) → AreTerms (named numbers)
 named-terms numbers k = refl
 
--- the instances of what is renamed are instances of what it is taken back to
+-- the instances of the renumbered nodes are instances of what the inverse makes of them
 renamed-instance : (nodes others : List Node) (numbers : List ℕ) → others ≡ substitute (named numbers) nodes → (f : List Node) → IsInstance others f → IsInstance nodes f
 renamed-instance nodes others numbers e f i =
     ((λ k. substitute i.0 (named numbers k)), substitute-terms i.0 (named numbers) i.1 (named-terms numbers), sym (substitute-twice i.0 (named numbers) nodes) ∙ ap (substitute i.0) (sym e) ∙ i.2)

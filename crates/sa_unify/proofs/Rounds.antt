@@ -1,4 +1,4 @@
--- The rounds in which two lists of nodes are made equal: each binds a variable to the term that it has to stand for.
+-- The rounds of a unification: each binds a variable to the term on the other side.
 use Rattle.std.proofs.Common.{◌≡◌, ℕ, List, Some, refl, sym, ap, subst, ◌∙◌}
 use Rattle.sa_unify.specs.declared.unification.Step.{Step}
 use Rattle.sa_unify.specs.declared.unification.Step.TheVariants as step
@@ -6,7 +6,7 @@ use Rattle.sa_unify.specs.declared.pattern.Node.{Node}
 use Rattle.sa_unify.specs.Terms.{IsTerm, Values, AreTerms, substitute, only, IsStep, IsUnified, NeverEqual}
 use Rattle.sa_unify.proofs.Terms.{substitute-twice, substitute-only, substitute-terms, only-terms}
 
--- what has become of `kept`, `one` and `other` from `first`, `left` and `right`
+-- `kept`, `one` and `other` are what `first`, `left` and `right` have become
 abbrev pub IsRound : (first left right kept one other : List Node) → Type 0
 IsRound first left right kept one other = record {
   sound : (values : Values) → AreTerms values → (joint : Values) × AreTerms joint × (substitute joint left ≡ substitute values one) × (substitute joint right ≡ substitute values other) × (substitute joint first ≡ substitute values kept);
@@ -20,7 +20,7 @@ round-init first left right = record {
 }
 
 module _ (first left right kept one other : List Node) (round : IsRound first left right kept one other) where
-  -- what makes the two lists equal that were given makes those equal that they have become
+  -- a unifier of the two lists that were given is one of those that they have become
   equal-still : (joint : Values) → AreTerms joint → substitute joint left ≡ substitute joint right → substitute joint one ≡ substitute joint other
   equal-still joint terms e = let all = round.whole joint terms e in all.0 ∙ e ∙ sym (all.1)
 

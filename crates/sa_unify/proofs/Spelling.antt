@@ -1,4 +1,5 @@
--- A type of a class's header as nodes: it is a term; with terms for its variables it spells the type at the instance where the terms spell the types of the instance; and whatever the terms are, it is read as the type at what is read of them.
+-- A type of a class's header as nodes: it is a term; with terms for its variables it spells the type at the instance where the terms
+-- spell the types of the instance; and whatever the terms are, it is read as the type at what is read of them.
 use Rattle.std.proofs.Common.{◌≡◌, ℕ, suc, ◌+◌, List, [], ◌∷◌, ◌++◌, Option, None, Some, refl, sym, ap, ◌∙◌}
 use Rattle.sa_ast.specs.declared.ty.Mode.{Mode}
 use Rattle.sa_ast.specs.Types.{BareTy, Named, Same, Rout, Iter, BareTys, no_types, type, BareArgs, no_args, arg, BareResult, no_result, gives}
@@ -200,7 +201,7 @@ spelled-term t = written-term nowhere same_nodes refl t
 pub spelled_all-terms : (ts : BareTys) → following (spelled_all ts) (count_types ts) ≡ Some []
 spelled_all-terms ts = written_all-terms nowhere same_nodes refl ts
 
--- terms for variables leave it as it is
+-- a substitution leaves it unchanged
 pub substitute-spelled : (values : Values) (t : BareTy) → substitute values (spelled t) ≡ spelled t
 substitute-spelled values t = substitute-written nowhere same_nodes values (λ name. None) Same (λ name. refl) refl t ∙ ap spelled (instance-itself t)
 

@@ -30,7 +30,7 @@ position-Iter args of pos = ap position_of (sym (ty.rolls-Iter args of pos)) ∙
 
 pub ruleset positions = (position-Named, position-Same, position-Rout, position-Iter)
 
--- ---- the first of types, from a place on
+-- ---- the first of types, from an index on
 
 module _ (kind : List ℕ → Option ClassKind) where
   pub types_here : (types : List Ty) (i : ℕ) (t : Ty) → i < length types → t ≡ get_or types i t → is_abstract_class kind (bare t) ≡ false → slice_get (flat_map (misplaced_type kind) (drop i types)) 0 ≡ Some (position_of t)

@@ -1,4 +1,5 @@
--- Terms substituted for variables: substituting twice is substituting once, and of two lists that begin with a term and are equal the terms are equal.
+-- Terms substituted for variables: two substitutions in a row are one, and if two lists that begin with a term are equal, the
+-- terms are equal.
 use Rattle.std.proofs.Common.{◌≡◌, ℕ, zero, suc, ◌+◌, ◌≤◌, Bool, true, false, true≢false, ◌||◌, cond, nat_eq, List, [], ◌∷◌, ◌++◌, Some, length, take, drop, refl, sym, ap, subst, ◌∙◌, arith, length-append}
 use Rattle.std.proofs.lemmas.Bool.{eqb-true, eq-eqb}
 use Rattle.std.proofs.lemmas.Grind.{flat_map-append}
@@ -23,7 +24,7 @@ heads a b l m e = cc
 no_head : (a : Node) (l : List Node) → a ∷ l ≡ [] → ⊥
 no_head a l e = omega (arith, ap length e)
 
--- what is behind terms that end a list is what is behind nothing of what follows
+-- what is after terms that end a list is what is after none of what follows
 pub following-append : (nodes more : List Node) (k n : ℕ) → following nodes k ≡ Some [] → following (nodes ++ more) (k + n) ≡ following more n
 following-append [] more zero n h = let e : zero + n ≡ n = omega arith in ap (following more) e
 following-append [] more (suc k) n h = absurd (none-some [] h)
@@ -90,7 +91,7 @@ second_or : (a b : Bool) → b ≡ true → a || b ≡ true
 second_or true b h = refl
 second_or false b h = h
 
--- what the variables of the nodes stand for is all that counts
+-- two substitutions that agree on the variables of the nodes give the same
 pub substitute-same : (values others : Values) (nodes : List Node) → ((n : ℕ) → comes n nodes ≡ true → values n ≡ others n) → substitute values nodes ≡ substitute others nodes
 substitute-same values others [] h = refl
 substitute-same values others (a ∷ nodes) h =
@@ -128,7 +129,7 @@ only-terms number term h other = go (nat_eq other number)
     go true = h
     go false = refl
 
--- where the variable stands for the term anyway, substituting it changes nothing
+-- if the variable stands for the term anyway, substituting it changes nothing
 pub substitute-only : (values : Values) (number : ℕ) (term nodes : List Node) → values number ≡ substitute values term → substitute values (substitute (only number term) nodes) ≡ substitute values nodes
 substitute-only values number term nodes e =
     substitute-twice values (only number term) nodes ∙ substitute-same (λ n. substitute values (only number term n)) values nodes (λ n _. each n (nat_eq n number) refl)
@@ -137,7 +138,7 @@ substitute-only values number term nodes e =
     each n true h = sym e ∙ ap values (sym (eqb-true n number h))
     each n false h = append-nil (values n)
 
--- ---- a variable that the term holds
+-- ---- a variable that occurs in the term
 
 value-variable : (values : Values) (number : ℕ) (a : Node) → is_variable number a ≡ true → value_of values a ≡ values number
 value-variable values number (node.Variable other) h = ap values (eqb-true other number h)
@@ -172,7 +173,7 @@ alone : (other number : ℕ) (more : List Node) → more ≡ [] → comes number
 alone other number [] h c = ap (λ n. node.Variable n ∷ []) (eqb-true other number (or_false (nat_eq other number) c))
 alone other number (a ∷ more) h c = absurd (no_head a more h)
 
--- no term is equal to one that holds it
+-- no term is equal to one in which it occurs
 pub never-holds : (values : Values) (number : ℕ) (term : List Node) → IsTerm term → comes number term ≡ true → (term ≡ node.Variable number ∷ [] → ⊥) → values number ≡ substitute values term → ⊥
 never-holds values number [] h c other_term e = none-some [] h
 never-holds values number (node.Variable other ∷ more) h c other_term e = other_term (alone other number more (some_nodes more [] (sym (behind_none more) ∙ h)) c)
@@ -184,7 +185,7 @@ never-holds values number (node.List count ∷ more) h c other_term e = longer v
 
 -- ---- the first difference of two lists
 
--- what is behind equal beginnings is made equal too
+-- what is after equal prefixes is unified too
 pub substitute-following : (values : Values) (one other : List Node) (place : ℕ) → take place one ≡ take place other → substitute values one ≡ substitute values other → substitute values (drop place one) ≡ substitute values (drop place other)
 substitute-following values one other place same e =
     append_cancel_left (substitute values (take place one)) (substitute values (drop place one)) (substitute values (drop place other)) (parts one ∙ e ∙ sym (parts other) ∙ ap (λ l. substitute values l ++ substitute values (drop place other)) (sym same))
@@ -192,7 +193,7 @@ substitute-following values one other place same e =
     parts : (l : List Node) → substitute values (take place l) ++ substitute values (drop place l) ≡ substitute values l
     parts l = sym (substitute-append values (take place l) (drop place l)) ∙ ap (substitute values) (take-append-drop place l)
 
--- a variable at the difference stands for the term at the other side
+-- a variable at the difference stands for the term on the other side
 pub substitute-bound : (values : Values) (number : ℕ) (term rest more : List Node) → AreTerms values → IsTerm term → substitute values (term ++ rest) ≡ substitute values (node.Variable number ∷ more) → values number ≡ substitute values term
 substitute-bound values number term rest more terms h e =
     sym (terms-equal (substitute values term) (values number) (substitute values rest) (substitute values more) (substitute-term values term terms h) (terms number) (sym (substitute-append values term rest) ∙ e))

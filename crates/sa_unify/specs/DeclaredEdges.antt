@@ -1,9 +1,9 @@
--- The edges that the classes of a program declare, as the nodes of their types, in the order of the text.
+-- The edges that the classes of a program declare, as the nodes of their types, in source order.
 use Rattle.std.specs.Prelude.{ℕ, zero, suc, List, [], ◌∷◌, ◌++◌, Option, None, Some, cond, length, map, nat_eq, flat_map, slice_get}
 use Rattle.sa_ast.specs.declared.class.Class.{Class}
 use Rattle.sa_ast.specs.declared.ty.Ty.{Ty}
 use Rattle.sa_ast.specs.Types.{BareTy, Named, Same, Rout, Iter, no_types, type, bare}
-use Rattle.sa_types.specs.Substitution.{place_of}
+use Rattle.sa_subst.specs.Substitution.{place_of}
 use Rattle.sa_unify.specs.declared.declared.Edge.{Edge}
 use Rattle.sa_unify.specs.declared.header.Header.{Header}
 use Rattle.sa_unify.specs.declared.pattern.Node.{Node}
@@ -12,7 +12,7 @@ use Rattle.sa_unify.specs.Headers.{place_in}
 use Rattle.sa_unify.specs.Numbers.{number_in}
 use Rattle.sa_unify.specs.Patterns.{below_nodes, lower_nodes, above_nodes}
 
--- the number of the lower class, that of the upper one, and the nodes
+-- the number of the subtype's class, that of the supertype's, and the nodes
 abbrev pub EdgeNodes : Type 0
 EdgeNodes = ℕ × ℕ × List Node
 
@@ -29,7 +29,7 @@ ends_written e = (e.lower, e.upper)
 abbrev pub ends_of : Edge → ℕ × ℕ
 ends_of e = (e.lower, e.upper)
 
--- ---- in the header of a class with a number, a name and so many parameters, whose places are given
+-- ---- in the header of a class with a number, a name and n parameters, whose indices are given
 
 -- the number of a name without arguments, which is none for a parameter
 abbrev pub number_alone : Option ℕ → Option ℕ → Option ℕ
@@ -37,7 +37,7 @@ number_alone None number = number
 number_alone (Some k) number = None
 
 module _ (number : List ℕ → Option ℕ) (place : List ℕ → Option ℕ) (own : ℕ) (name : List ℕ) (arity : ℕ) where
-  -- the number of the class that a type is, where it is one
+  -- the number of the class that a type is, if it is one
   abbrev pub class_number : BareTy → Option ℕ
   class_number (Named other no_types) = number_alone (place other) (number other)
   class_number (Named other (type t more)) = number other
@@ -65,7 +65,7 @@ module _ (number : List ℕ → Option ℕ) (place : List ℕ → Option ℕ) (o
 
 -- ---- of all classes
 
--- a class declares edges where its number is its place
+-- a class declares edges if its number is its index
 abbrev pub where_own : Option ℕ → ℕ → List EdgeNodes → List EdgeNodes
 where_own None place edges = []
 where_own (Some own) place edges = cond (nat_eq own place) edges []
@@ -90,7 +90,7 @@ numbers_in header = number_in header.names.now.places
 abbrev pub class_number_in : Header → Ty → Option ℕ
 class_number_in header t = class_number (numbers_in header) (place_in header) header.class header.name.now header.arity (bare t)
 
--- that of a name with its arguments
+-- the same of a name with its arguments
 abbrev pub number_named : Header → List ℕ → List Ty → Option ℕ
 number_named header name [] = number_alone (place_in header name) (numbers_in header name)
 number_named header name (t ∷ more) = numbers_in header name

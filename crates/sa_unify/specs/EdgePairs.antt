@@ -4,6 +4,6 @@ use Rattle.std.specs.Option.{option_map_or}
 use Rattle.sa_unify.specs.declared.pair.EdgePairs.{EdgePairs}
 use Rattle.sa_unify.specs.declared.pattern.Node.{Node}
 
--- those of the pair with a number, of which there are none where there is no such pair
+-- those of the pair with a number, and none if there is no such pair
 abbrev pub nodes_of : EdgePairs → ℕ → List Node
 nodes_of pairs number = option_map_or (λ v. v.items) (slice_get pairs.spelled.keys number) []

@@ -6,7 +6,7 @@ use Rattle.sa_ast.specs.declared.class.Class.{Class}
 use Rattle.sa_ast.specs.declared.ty.ModeTy.{ModeTy}
 use Rattle.sa_ast.specs.declared.ty.Ty.{Ty}
 use Rattle.sa_ast.specs.Types.{bare}
-use Rattle.sa_types.specs.Substitution.{HasPlaces}
+use Rattle.sa_subst.specs.Substitution.{HasPlaces}
 use Rattle.sa_unify.specs.declared.header.Header.{Header}
 use Rattle.sa_unify.specs.declared.names.Names.{Names}
 use Rattle.sa_unify.specs.declared.pattern.Node.{Node}
@@ -25,7 +25,7 @@ own_in header = own_nodes header.name.now header.arity
 abbrev pub ty_nodes : Header → Ty → List Node
 ty_nodes header t = written (place_in header) (own_in header) (bare t)
 
--- ---- its parts, as they are spelled one after the other
+-- ---- its parts, spelled in a row
 
 abbrev pub named_nodes : Header → List ℕ → List Ty → List Node
 named_nodes header name [] = alone (place_in header name) name

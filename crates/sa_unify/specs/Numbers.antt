@@ -1,4 +1,4 @@
--- The numbers of classes: a class has the number of its place, and its name is that of the first class of the name.
+-- The numbers of classes: the number of a class is its index, and its name is that of the first class of the name.
 use Rattle.std.specs.Prelude.{◌≡◌, ℕ, ◌+◌, List, [], ◌∷◌, Option, None, Some, cond, drop, length, map, nat_eq, slice_get}
 use Rattle.std.specs.Cmp.Lexicographic.{pointwise}
 use Rattle.std.specs.HashMap.{HashMap, get_by}
@@ -11,7 +11,7 @@ use Rattle.sa_ast.specs.Types.{BareTy, Named, Same, Rout, Iter}
 use Rattle.sa_unify.specs.declared.names.Names.{Names}
 use Rattle.sa_unify.specs.declared.names.ClassRow.{ClassRow}
 
--- the place of the first class with a name, where the list begins at place i
+-- the index of the first class with a name, in a list that begins at index i
 abbrev pub class_place : List Class → ℕ → List ℕ → Option ℕ
 class_place [] i name = None
 class_place (c ∷ more) i name = cond (pointwise nat_eq c.name.name name) (Some i) (class_place more (i + 1) name)
@@ -20,14 +20,14 @@ class_place (c ∷ more) i name = cond (pointwise nat_eq c.name.name name) (Some
 abbrev pub number_in : {A S : Type 0} → HashMap (Vec ℕ A) ℕ S → List ℕ → Option ℕ
 number_in table name = get_by (λ key. pointwise nat_eq name key.items) table
 
--- a table holds the numbers of the classes from a place on
+-- a table has the numbers of the classes from an index on
 abbrev pub HasNumbers : {A S : Type 0} → HashMap (Vec ℕ A) ℕ S → List Class → ℕ → Type 0
 HasNumbers table classes from = (name : List ℕ) → number_in table name ≡ class_place (drop from classes) from name
 
 abbrev pub row_of : Class → ClassRow
 row_of c = record { kind = c.kind; arity = length c.params }
 
--- the names of these classes, with what is known of each class
+-- the names of these classes, with the kind and the arity of each class
 abbrev pub AreNamesOf : List Class → Names → Type 0
 AreNamesOf classes names =
     HasNumbers names.places classes 0 × (names.names.items ≡ map (λ c. c.name.name) classes) × (names.rows.items ≡ map row_of classes)

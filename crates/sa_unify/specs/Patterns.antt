@@ -1,17 +1,17 @@
--- The nodes of an edge that a class declares: the list of the lower type's arguments, and then the upper type.
+-- The nodes of an edge that a class declares: the list of the subtype's arguments, and then the supertype.
 use Rattle.std.specs.Prelude.{◌≡◌, ℕ, List, [], ◌∷◌, ◌++◌, Option, None}
 use Rattle.sa_ast.specs.Types.{BareTy, Named, Same, Rout, Iter, BareTys, no_types, type}
 use Rattle.sa_unify.specs.declared.pattern.Node.{Node}
 use Rattle.sa_unify.specs.declared.pattern.Node.TheVariants as node
 use Rattle.sa_unify.specs.Spelled.{count_types, variables, own_nodes, written, written_all, spelled, spelled_all}
 
--- those of two types without variables, where the lower one has these arguments
+-- those of two types without variables, where the subtype has these arguments
 abbrev pub pair_nodes : BareTys → BareTy → List Node
 pair_nodes args t = node.List (count_types args) ∷ spelled_all args ++ spelled t
 
--- in the header of a class with a name and so many parameters, whose places are given
+-- in the header of a class with a name and n parameters, whose indices are given
 module _ (place : List ℕ → Option ℕ) (name : List ℕ) (arity : ℕ) where
-  -- the class below a type
+  -- the class as the subtype of a type
   abbrev pub below_nodes : BareTy → List Node
   below_nodes u = node.List arity ∷ variables arity ++ written place (own_nodes name arity) u
 
@@ -22,7 +22,7 @@ module _ (place : List ℕ → Option ℕ) (name : List ℕ) (arity : ℕ) where
   lower_nodes (Rout args of) = []
   lower_nodes (Iter args of) = []
 
-  -- the class above a type
+  -- the class as the supertype of a type
   abbrev pub above_nodes : BareTy → List Node
   above_nodes u = lower_nodes u ++ own_nodes name arity
 

@@ -31,7 +31,7 @@ abbrev pub variables : ℕ → List Node
 variables zero = []
 variables (suc n) = variables n ++ node.Variable n ∷ []
 
--- a class with its parameters
+-- a class at its parameters
 abbrev pub own_nodes : List ℕ → ℕ → List Node
 own_nodes name arity = node.Class name arity ∷ variables arity
 
@@ -65,7 +65,7 @@ module _ (place : List ℕ → Option ℕ) (own : List Node) where
 abbrev pub nowhere : List ℕ → Option ℕ
 nowhere name = None
 
--- SAME outside of a header, which is spelled as nothing that a header spells
+-- SAME outside of a header, spelled as nothing that a header spells
 abbrev pub same_nodes : List Node
 same_nodes = node.List 0 ∷ []
 
@@ -103,7 +103,7 @@ module _ (value : List ℕ → Option BareTy) (same : BareTy) where
     instance_result no_result = no_result
     instance_result (gives t) = gives (instance t)
 
--- ---- reading: what each term is, where one that fits nowhere is read as SAME
+-- ---- reading: the item of each term; one that fits nowhere is read as SAME
 
 pub data Item : Type 0 where
   a_type : BareTy → Item
@@ -140,7 +140,7 @@ made (node.Iter count) items = a_type (Iter (args_of items) (result_of items))
 made (node.Passed mode) items = a_mode mode
 made (node.List count) items = a_type Same
 
--- what so many terms at the head of the nodes are
+-- the items of n terms at the head of the nodes
 abbrev pub read : List Node → ℕ → List Item
 read [] n = []
 read (a ∷ more) zero = []
@@ -154,6 +154,6 @@ first_item (x ∷ more) = x
 abbrev pub read_type : List Node → BareTy
 read_type term = type_of (first_item (read term 1))
 
--- the types that so many terms are
+-- the types that n terms are
 abbrev pub read_types : List Node → ℕ → BareTys
 read_types terms count = types_of (read terms count)

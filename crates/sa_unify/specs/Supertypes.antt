@@ -25,7 +25,7 @@ abbrev pub is_abstract_kind : ClassKind → Bool
 is_abstract_kind Abstract = true
 is_abstract_kind _ = false
 
--- where it is known of what kind the class of a name is
+-- if it is known of what kind the class of a name is
 module _ (kind : List ℕ → Option ClassKind) where
   -- whether a type is an abstract class
   abbrev pub is_abstract_class : BareTy → Bool
@@ -35,6 +35,6 @@ module _ (kind : List ℕ → Option ClassKind) where
   abbrev pub misplaced_type : Ty → List Pos
   misplaced_type t = cond (is_abstract_class (bare t)) [] (position_of t ∷ [])
 
-  -- the positions of the types after `<` that are none, in text order
+  -- the positions of the types after `<` that are none, in source order
   abbrev pub misplaced : List Class → List Pos
   misplaced classes = flat_map (λ c. flat_map misplaced_type c.below) classes

@@ -1,4 +1,4 @@
--- Types with variables as lists of nodes, in which a node comes before those that it holds, and types substituted for the variables.
+-- Types with variables as lists of nodes in prefix order (a node comes before its children), and substitution for the variables.
 use Rattle.std.specs.Prelude.{◌≡◌, ◌↔◌, ℕ, zero, suc, ◌+◌, max, ◌||◌, Bool, true, false, cond}
 use Rattle.std.specs.Prelude.{nat_eq, List, [], ◌∷◌, ◌++◌, get_or, Option, Some, None, flat_map}
 use Rattle.sa_unify.specs.declared.pattern.Node.{Node}
@@ -6,9 +6,9 @@ use Rattle.sa_unify.specs.declared.pattern.Node.TheVariants as node
 use Rattle.sa_unify.specs.declared.unification.Step.{Step}
 use Rattle.sa_unify.specs.declared.unification.Step.TheVariants as step
 
--- ---- terms: a node with all that it holds
+-- ---- terms: a node with all its descendants
 
--- how many terms a node holds
+-- how many children a node has
 abbrev pub held : Node → ℕ
 held (node.Variable number) = 0
 held (node.Class name count) = count
@@ -17,7 +17,7 @@ held (node.Iter count) = count
 held (node.Passed mode) = 0
 held (node.List count) = count
 
--- the nodes behind so many terms at the head of a list, if they are there
+-- the nodes after n terms at the head of a list, if they are there
 abbrev pub following : List Node → ℕ → Option (List Node)
 following [] zero = Some []
 following [] (suc n) = None
@@ -28,7 +28,7 @@ following (a ∷ more) (suc n) = following more (held a + n)
 abbrev pub IsTerm : List Node → Type 0
 IsTerm nodes = following nodes 1 ≡ Some []
 
--- ---- substitution: terms for variables
+-- ---- substitution of terms for variables
 
 abbrev pub Values : Type 0
 Values = ℕ → List Node
@@ -49,11 +49,11 @@ value_of values (node.List count) = node.List count ∷ []
 abbrev pub substitute : Values → List Node → List Node
 substitute values nodes = flat_map (value_of values) nodes
 
--- the variable stands for this term, and each other one for itself
+-- the variable is replaced by this term, and each other one by itself
 abbrev pub only : ℕ → List Node → Values
 only number term other = cond (nat_eq other number) term (node.Variable other ∷ [])
 
--- each variable stands for one that many numbers later
+-- each variable is replaced by the one whose number is greater by this much
 abbrev pub later : ℕ → Values
 later more number = node.Variable (number + more) ∷ []
 
@@ -61,7 +61,7 @@ abbrev pub is_variable : ℕ → Node → Bool
 is_variable number (node.Variable other) = nat_eq other number
 is_variable number _ = false
 
--- whether the variable comes among the nodes
+-- whether the variable occurs in the nodes
 abbrev pub comes : ℕ → List Node → Bool
 comes number [] = false
 comes number (a ∷ more) = is_variable number a || comes number more
@@ -71,12 +71,12 @@ abbrev pub after : Node → ℕ
 after (node.Variable number) = number + 1
 after _ = 0
 
--- the number after those of all variables among the nodes
+-- the number after those of all variables in the nodes
 abbrev pub free : List Node → ℕ
 free [] = 0
 free (a ∷ more) = max (after a) (free more)
 
--- ---- lists of nodes that are to be made equal
+-- ---- unification of two lists of nodes
 
 -- the variable at the head of the nodes, if there is one
 abbrev pub variable_in : List Node → Option ℕ
@@ -84,7 +84,7 @@ variable_in [] = None
 variable_in (node.Variable number ∷ more) = Some number
 variable_in (a ∷ more) = None
 
--- the heads of two lists differ, where neither has ended
+-- the heads of two lists differ, and neither has ended
 abbrev pub Differ : List Node → List Node → Type 0
 Differ [] others = Unit {0}
 Differ (a ∷ more) [] = Unit {0}
@@ -94,7 +94,7 @@ Differ (a ∷ more) (b ∷ others) = a ≡ b → ⊥
 pub record NeverEqual (one other : List Node) : Type 0 where
   pub never : (values : Values) → AreTerms values → substitute values one ≡ substitute values other → ⊥
 
--- what is to be done next so that the two lists become equal
+-- the next step of the unification
 abbrev pub IsStep : List Node → List Node → Step → Type 0
 IsStep one other step.Equal = one ≡ other
 IsStep one other step.Never = NeverEqual one other
@@ -102,14 +102,14 @@ IsStep one other (step.Bind number term) =
     IsTerm term.items
     × ((values : Values) → AreTerms values → substitute values one ≡ substitute values other → values number ≡ substitute values term.items)
 
--- the variable is bound to the term at the head of the nodes, if that doesn't hold it
+-- the variable is bound to the term at the head of the nodes, if it doesn't occur in it
 abbrev pub IsBound : ℕ → List Node → Step → Type 0
 IsBound number nodes step.Equal = ⊥
 IsBound number nodes step.Never =
     (term : List Node) × (rest : List Node) × (nodes ≡ term ++ rest) × IsTerm term × (comes number term ≡ true)
 IsBound number nodes (step.Bind other term) = (rest : List Node) × (nodes ≡ term.items ++ rest) × IsTerm term.items × (other ≡ number)
 
--- each instance of the answer is what `kept` is under a unifier of the two lists
+-- each instance of the result is what `kept` is under a unifier of the two lists
 abbrev pub IsByUnifiers : (kept one other unified : List Node) → Type 0
 IsByUnifiers kept one other unified =
     (values : Values) → AreTerms values
@@ -117,20 +117,20 @@ IsByUnifiers kept one other unified =
     × (substitute unifier one ≡ substitute unifier other)
     × (substitute values unified ≡ substitute unifier kept)
 
--- under each unifier the answer is what `kept` is
+-- under each unifier the result is what `kept` is
 abbrev pub IsUnderUnifiers : (kept one other unified : List Node) → Type 0
 IsUnderUnifiers kept one other unified =
     (unifier : Values) → AreTerms unifier → substitute unifier one ≡ substitute unifier other
     → substitute unifier unified ≡ substitute unifier kept
 
--- what the nodes `kept` become under a most general unifier of the two lists, where they have a unifier
+-- what the nodes `kept` become under a most general unifier of the two lists, if they have a unifier
 abbrev pub IsUnified : List Node → List Node → List Node → Option (List Node) → Type 0
 IsUnified kept one other None = NeverEqual one other
 IsUnified kept one other (Some unified) = IsByUnifiers kept one other unified × IsUnderUnifiers kept one other unified
 
--- ---- the nodes of a pair that two pairs give
+-- ---- the nodes of the composition of two pairs
 
--- each instance of the answer is the beginning of the first pair and the end of the second,
+-- each instance of the result is the beginning of the first pair and the end of the second,
 -- each with terms that make the end of the first equal to the beginning of the second
 abbrev pub IsOfJoints : (below ends begins above joined : List Node) → Type 0
 IsOfJoints below ends begins above joined =
@@ -141,7 +141,7 @@ IsOfJoints below ends begins above joined =
     × (substitute lower ends ≡ substitute upper begins)
     × (substitute values joined ≡ substitute lower below ++ substitute upper above)
 
--- all such terms give an instance of the answer
+-- all such terms give an instance of the result
 abbrev pub HasJoints : (below ends begins above joined : List Node) → Type 0
 HasJoints below ends begins above joined =
     (lower upper : Values) → AreTerms lower → AreTerms upper → substitute lower ends ≡ substitute upper begins
@@ -158,17 +158,17 @@ IsJoined below ends begins above (Some joined) = IsOfJoints below ends begins ab
 abbrev pub IsInstance : List Node → List Node → Type 0
 IsInstance nodes instance = (values : Values) × AreTerms values × (substitute values nodes ≡ instance)
 
--- two lists of nodes become the same with terms for their variables
+-- two lists of nodes become equal with terms for their variables
 pub record SameInstances (nodes others : List Node) : Type 0 where
   pub same : (instance : List Node) → IsInstance nodes instance ↔ IsInstance others instance
 
--- each variable stands for the one with the number that a list holds at its place
+-- each variable is replaced by the one with the number that a list has at its index
 abbrev pub named : List ℕ → Values
 named numbers k = node.Variable (get_or numbers k 0) ∷ []
 
--- ---- a pair of types after another
+-- ---- composition of two pairs
 
--- two pairs give a third one: the upper type of the first has the arguments with which the second begins
+-- two pairs compose to a third one: the supertype of the first has the arguments with which the second begins
 pub record Follows (first second both : List Node) : Type 0 where
   pub lower : List Node
   pub name : List ℕ
@@ -181,7 +181,7 @@ pub record Follows (first second both : List Node) : Type 0 where
   pub ends : second ≡ node.List count ∷ args ++ upper
   pub joins : both ≡ lower ++ upper
 
--- what an instance of the one and an instance of the other give
+-- the composition of an instance of the one and an instance of the other
 abbrev pub IsGiven : (first second both : List Node) → Type 0
 IsGiven first second both = (p : List Node) × (q : List Node) × IsInstance first p × IsInstance second q × Follows p q both
 
@@ -189,6 +189,6 @@ abbrev pub IsInstanceOf : Option (List Node) → List Node → Type 0
 IsInstanceOf None instance = ⊥
 IsInstanceOf (Some nodes) instance = IsInstance nodes instance
 
--- the instances of the answer are what the instances of two pairs give
+-- the instances of the result are the compositions of instances of the two pairs
 pub record IsComposed (first second : List Node) (composed : Option (List Node)) : Type 0 where
   pub same : (instance : List Node) → IsInstanceOf composed instance ↔ IsGiven first second instance

@@ -1,4 +1,4 @@
-//! The pair that two pairs give, where the second begins at the type at which the first ends.
+//! The composition of two pairs, of which the second begins at the type at which the first ends.
 
 ghost use Rattle.std.specs.Prelude.{IfOk, option_map};
 ghost use Rattle.sa_unify.specs.Terms.{IsComposed, IsJoined};
@@ -7,25 +7,25 @@ use crate::pair::EdgePairs;
 use crate::pattern::Node;
 use crate::unification::{add_all, copied, free_number, later_of, shifted, term_end, unify};
 use crate::work::WorkBudget;
-use sa_ast::NoMemory;
+use failure::{Failure, Invariant, broken, known};
 use std::alloc::Global;
 
-/// The pair from the lower type of `first` to the upper type of `second`, where the upper type of `first` and the lower
-/// type of `second` are made equal by types for their variables. There is none where they can't be.
+/// The pair from the subtype of `first` to the supertype of `second`, where the supertype of `first` and the subtype of `second` are
+/// unified: made equal by types for their variables. There is none if they have no unifier.
 pub fn compose(
     alloc: Global,
     work: &mut WorkBudget,
     pairs: &mut EdgePairs,
     first: u32,
     second: u32,
-) -> Result<Option<u32>, NoMemory> {
-    let one = pairs.shape(first).ok_or(NoMemory)?;
-    let two = pairs.shape(second).ok_or(NoMemory)?;
+) -> Result<Option<u32>, Failure> {
+    let one = known(pairs.shape(first), Invariant::SubtypeTable)?;
+    let two = known(pairs.shape(second), Invariant::SubtypeTable)?;
     work.unit()?;
     if one.above != two.below {
         return Ok(None);
     }
-    // The first pair keeps the arguments, or there are none: the second is what the two give.
+    // The first pair keeps the arguments, or there are none: the composition is the second pair.
     if one.kept || (one.below == 0 && one.above == 0) {
         return Ok(Some(second));
     }
@@ -35,33 +35,33 @@ pub fn compose(
     Ok(Some(pairs.add(alloc, work, nodes, two.head)?))
 }
 
-/// The nodes of the pair that two pairs give.
+/// The nodes of the composition of two pairs.
 #[tactic(auto, using(crate::proofs::Compositions::composes))]
 pub fn composed(
     alloc: Global,
     work: &mut WorkBudget,
     first: &[Node],
     second: &[Node],
-) -> Result<Option<Vec<Node>>, NoMemory>
+) -> Result<Option<Vec<Node>>, Failure>
     ensures { IfOk result (λ nodes. IsComposed first.now second.now (option_map (λ v. v.items) nodes)) }
 {
     let Some(one) = term_end(first, 0) else {
-        return Err(NoMemory);
+        return broken(Invariant::SubtypeTable);
     };
     let Some(two) = term_end(second, 0) else {
-        return Err(NoMemory);
+        return broken(Invariant::SubtypeTable);
     };
     if one == first.len() {
-        return Err(NoMemory);
+        return broken(Invariant::SubtypeTable);
     }
     if two == 0 {
-        return Err(NoMemory);
+        return broken(Invariant::SubtypeTable);
     }
     let Node::Class(_, above) = &first[one] else {
-        return Err(NoMemory);
+        return broken(Invariant::SubtypeTable);
     };
     let Node::List(below) = &second[0] else {
-        return Err(NoMemory);
+        return broken(Invariant::SubtypeTable);
     };
     if *above != *below {
         return Ok(None);
@@ -72,8 +72,8 @@ pub fn composed(
     Ok(nodes)
 }
 
-/// The nodes `below` and then `above`, where `ends` and `begins` are unified by terms for their variables: those of
-/// `below` and `ends` are other ones than those of `begins` and `above`. There are none where they can't be.
+/// The nodes `below` and then `above`, under a most general unifier of `ends` and `begins`. The variables of
+/// `below` and `ends` are distinct from those of `begins` and `above`. There are none if there is no unifier.
 fn joined(
     alloc: Global,
     work: &mut WorkBudget,
@@ -81,7 +81,7 @@ fn joined(
     ends: &[Node],
     begins: &[Node],
     above: &[Node],
-) -> Result<Option<Vec<Node>>, NoMemory>
+) -> Result<Option<Vec<Node>>, Failure>
     ensures { IfOk result (λ joined. IsJoined below.now ends.now begins.now above.now (option_map (λ v. v.items) joined)) }
 {
     work.units(below.len())?;

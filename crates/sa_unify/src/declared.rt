@@ -1,4 +1,4 @@
-//! The pairs of the edges that classes declare, and the rule that what stands after `<` is an abstract class.
+//! The pairs of the edges that classes declare, and the rule that each type after `<` is an abstract class.
 
 ghost use Rattle.std.specs.Prelude.{◌≡◌, IfOk, flat_map, map, slice_get};
 ghost use Rattle.sa_ast.specs.Types.{bare};
@@ -11,21 +11,22 @@ use crate::pair::EdgePairs;
 use crate::unification::copied;
 use crate::work::WorkBudget;
 use crate::written::WrittenEdge;
-use sa_ast::{Class, ClassKind, NoMemory, Pos, Ty};
+use failure::Failure;
+use sa_ast::{Class, ClassKind, Pos, Ty};
 use std::alloc::Global;
 
-/// A declared edge: the lower class, the upper class, and the pair that it declares.
+/// A declared edge: the class of the subtype, the class of the supertype, and the pair that it declares.
 #[derive(Clone, Copy)]
 pub struct Edge {
-    /// The number of the lower class.
+    /// The number of the subtype's class.
     pub lower: u32,
-    /// The number of the upper class.
+    /// The number of the supertype's class.
     pub upper: u32,
     /// The number of the pair.
     pub pair: u32,
 }
 
-/// Where the first type after a `<` stands, in text order, that is no abstract class: a concrete class, a parameter, SAME, a
+/// The position of the first type after a `<`, in source order, that is no abstract class: a concrete class, a parameter, SAME, a
 /// bound type, or a name that is no class.
 #[tactic(auto, using(crate::proofs::Supertypes::classes_walk))]
 pub fn first_misplaced(classes: &[Class], names: &Names) -> Option<Pos>
@@ -79,7 +80,7 @@ fn is_abstract_kind(kind: ClassKind) -> bool
     }
 }
 
-/// Where a type stands.
+/// The position of a type.
 #[tactic(auto, using(crate::proofs::Supertypes::positions))]
 fn position(ty: &Ty) -> Pos
     ensures { result ≡ position_of ty.now }
@@ -99,7 +100,7 @@ pub fn edges_of(
     work: &mut WorkBudget,
     written: &[WrittenEdge],
     pairs: &mut EdgePairs,
-) -> Result<Vec<Edge>, NoMemory>
+) -> Result<Vec<Edge>, Failure>
     ensures { IfOk result (λ edges. map ends_of edges.items ≡ map ends_written written.now) }
 {
     let mut edges = Vec::new(alloc);
@@ -115,7 +116,7 @@ fn edge_of(
     work: &mut WorkBudget,
     own: &WrittenEdge,
     pairs: &mut EdgePairs,
-) -> Result<Edge, NoMemory>
+) -> Result<Edge, Failure>
     ensures { IfOk result (λ edge. ends_of edge ≡ ends_written own.now) }
 {
     let nodes = copied(alloc, own.nodes.as_slice())?;
@@ -127,9 +128,9 @@ fn edge_of(
     })
 }
 
-/// The lower class of each edge.
+/// The subtype's class of each edge.
 #[tactic(auto, using(std::proofs::lemmas::List::map_more))]
-pub fn lowers(alloc: Global, edges: &[Edge]) -> Result<Vec<u32>, NoMemory>
+pub fn lowers(alloc: Global, edges: &[Edge]) -> Result<Vec<u32>, Failure>
     ensures { IfOk result (λ lowers. lowers.items ≡ map (λ e. e.lower) edges.now) }
 {
     let mut lowers = Vec::new(alloc);
@@ -139,9 +140,9 @@ pub fn lowers(alloc: Global, edges: &[Edge]) -> Result<Vec<u32>, NoMemory>
     Ok(lowers)
 }
 
-/// The upper class of each edge.
+/// The supertype's class of each edge.
 #[tactic(auto, using(std::proofs::lemmas::List::map_more))]
-pub fn uppers(alloc: Global, edges: &[Edge]) -> Result<Vec<u32>, NoMemory>
+pub fn uppers(alloc: Global, edges: &[Edge]) -> Result<Vec<u32>, Failure>
     ensures { IfOk result (λ uppers. uppers.items ≡ map (λ e. e.upper) edges.now) }
 {
     let mut uppers = Vec::new(alloc);

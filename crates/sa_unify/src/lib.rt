@@ -1,5 +1,5 @@
-//! The edges that the classes of a program declare, as pairs of a type and a type above it, both with variables, and the pair
-//! that two pairs give one after the other.
+//! The subtype edges that the classes of a program declare, as pairs of a type and a supertype of it, both with variables, and the
+//! composition of two pairs by unification.
 #![tactic(auto)]
 
 mod composition;

@@ -4,7 +4,8 @@ ghost use Rattle.std.specs.Prelude.{◌≡◌, IfOk, length, map, slice_get};
 ghost use Rattle.sa_ast.specs.Types.{bare};
 ghost use Rattle.sa_unify.specs.Numbers.{AreNamesOf, HasNumbers, arity_of, kind_bare, kind_of_name, name_of, number_in, row_of};
 
-use sa_ast::{Class, ClassKind, Name, NoMemory, Ty};
+use failure::{Failure, Invariant};
+use sa_ast::{Class, ClassKind, Name, Ty};
 use sa_graph::word;
 use std::alloc::Global;
 use std::collections::HashMap;
@@ -18,20 +19,20 @@ pub struct ClassRow {
     pub arity: usize,
 }
 
-/// The names of a program's classes. A class has the number of its place among them.
+/// The names of a program's classes. The number of a class is its index among them.
 #[derive(Drop)]
 pub struct Names {
     /// The numbers of the classes by their names.
     pub places: HashMap<Vec<u8>, u32>,
     /// The name of each class.
     pub names: Vec<Name>,
-    /// What is known of each class.
+    /// The kind and the arity of each class.
     pub rows: Vec<ClassRow>,
 }
 
 impl Names {
     /// The names of these classes. Of two classes with one name the first counts.
-    pub fn make(alloc: Global, classes: &[Class]) -> Result<Names, NoMemory>
+    pub fn make(alloc: Global, classes: &[Class]) -> Result<Names, Failure>
         ensures { IfOk result (λ names. AreNamesOf classes.now names) }
     {
         let places = places_of(alloc, classes)?;
@@ -44,7 +45,7 @@ impl Names {
         })
     }
 
-    /// How many classes there are, those with one name among them.
+    /// How many classes there are, including those of a repeated name.
     pub fn classes(&self) -> usize
         ensures { result ≡ length self.now.rows.items }
     {
@@ -58,7 +59,7 @@ impl Names {
         self.rows.get(number as usize).copied()
     }
 
-    /// The name of a class, which is empty where there is none.
+    /// The name of a class, which is empty if there is none.
     pub fn name(&self, number: u32) -> &[u8]
         ensures { result.now ≡ name_of self.now number }
     {
@@ -68,7 +69,7 @@ impl Names {
         }
     }
 
-    /// How many parameters a class has, or 0 where there is none.
+    /// How many parameters a class has, or 0 if there is none.
     pub fn arity(&self, number: u32) -> usize
         ensures { result ≡ arity_of self.now number }
     {
@@ -85,7 +86,7 @@ impl Names {
         self.places.get(name).copied()
     }
 
-    /// The same by a name of the tree.
+    /// The same by a name of the AST.
     pub fn number(&self, name: &Name) -> Option<u32>
         ensures { result ≡ number_in self.now.places name.now }
     {
@@ -116,7 +117,7 @@ impl Names {
 }
 
 /// The numbers of the classes by their names. Of two with one name the first counts.
-fn places_of(alloc: Global, classes: &[Class]) -> Result<HashMap<Vec<u8>, u32>, NoMemory>
+fn places_of(alloc: Global, classes: &[Class]) -> Result<HashMap<Vec<u8>, u32>, Failure>
     ensures { IfOk result (λ table. HasNumbers table classes.now 0) }
 {
     let mut places = HashMap::new(alloc);
@@ -124,14 +125,14 @@ fn places_of(alloc: Global, classes: &[Class]) -> Result<HashMap<Vec<u8>, u32>, 
     'classes: while at > 0 {
         at -= 1;
         let name = Vec::from_slice(alloc, classes[at].name.name.as_slice())?;
-        places.insert(name, word(at)?)?;
+        places.insert(name, word(at, Invariant::SubtypeTable)?)?;
     }
     Ok(places)
 }
 
 /// The name of each class.
 #[tactic(auto, using(crate::proofs::Numbers::rows))]
-fn names_of(alloc: Global, classes: &[Class]) -> Result<Vec<Name>, NoMemory>
+fn names_of(alloc: Global, classes: &[Class]) -> Result<Vec<Name>, Failure>
     ensures { IfOk result (λ names. names.items ≡ map (λ c. c.name.name) classes.now) }
 {
     let mut names = Vec::new(alloc);
@@ -141,9 +142,9 @@ fn names_of(alloc: Global, classes: &[Class]) -> Result<Vec<Name>, NoMemory>
     Ok(names)
 }
 
-/// What is known of each class.
+/// The kind and the arity of each class.
 #[tactic(auto, using(crate::proofs::Numbers::rows))]
-fn rows_of(alloc: Global, classes: &[Class]) -> Result<Vec<ClassRow>, NoMemory>
+fn rows_of(alloc: Global, classes: &[Class]) -> Result<Vec<ClassRow>, Failure>
     ensures { IfOk result (λ rows. rows.items ≡ map row_of classes.now) }
 {
     let mut rows = Vec::new(alloc);

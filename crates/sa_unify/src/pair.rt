@@ -1,4 +1,4 @@
-//! A type of a class and a type above it, both with variables.
+//! A type of a class and a supertype of it, both with variables.
 
 ghost use Rattle.std.specs.Prelude.{◌≡◌, ◌∷◌, [], IfOk, get_or};
 ghost use Rattle.sa_unify.specs.EdgePairs.{nodes_of};
@@ -7,30 +7,30 @@ ghost use Rattle.sa_unify.specs.Terms.{SameInstances, named, substitute, value_o
 use crate::pattern::Node;
 use crate::unification::{difference, free_number, term_end};
 use crate::work::WorkBudget;
+use failure::{Failure, Invariant, broken, known};
 use indexmap::IndexSet;
-use sa_ast::NoMemory;
 use sa_graph::{entry, put, word};
 use std::alloc::Global;
 
-/// What is known of the nodes of a pair.
+/// Facts of the nodes of a pair.
 #[derive(Clone, Copy)]
 pub struct NodeShape {
-    /// How many arguments the lower type has.
+    /// How many arguments the subtype has.
     pub below: usize,
     /// Whether these are the variables 0, 1, 2 and so on.
     pub plain: bool,
-    /// The place of the upper type.
+    /// The index of the supertype.
     pub upper: usize,
-    /// The class of the upper type.
+    /// The class of the supertype.
     pub head: u32,
-    /// How many arguments the upper type has.
+    /// How many arguments the supertype has.
     pub above: usize,
-    /// Whether these are the arguments of the lower type, and the pair is plain.
+    /// Whether these are the arguments of the subtype, and the pair is plain.
     pub kept: bool,
 }
 
-/// The pairs of a program, each once. A pair is spelled as the list of the lower type's arguments and then the upper
-/// type, and its variables are numbered in the order in which they come first.
+/// The pairs of a program, each once. A pair is spelled as the list of the subtype's arguments and then the supertype,
+/// and its variables are numbered in the order of their first occurrences.
 #[derive(Drop)]
 pub struct EdgePairs {
     spelled: IndexSet<Vec<Node>>,
@@ -38,7 +38,7 @@ pub struct EdgePairs {
 }
 
 impl EdgePairs {
-    /// Those of a program for which none is known.
+    /// The pairs of a program for which none is known.
     pub fn new(alloc: Global) -> EdgePairs {
         EdgePairs {
             spelled: IndexSet::new(alloc),
@@ -51,23 +51,26 @@ impl EdgePairs {
         self.shapes.len()
     }
 
-    /// The number of the pair that is spelled by these nodes, whose upper type is of the class `head`.
+    /// The number of the pair that is spelled by these nodes, whose supertype is of the class `head`.
     pub fn add(
         &mut self,
         alloc: Global,
         work: &mut WorkBudget,
         nodes: Vec<Node>,
         head: u32,
-    ) -> Result<u32, NoMemory> {
+    ) -> Result<u32, Failure> {
         work.nodes(nodes.len())?;
         let nodes = renumbered(alloc, nodes.as_slice())?;
         if let Some(number) = self.spelled.get_index_of(nodes.as_slice()) {
-            return word(number);
+            return word(number, Invariant::SubtypeTable);
         }
         let shape = shape_of(&nodes, head)?;
         self.shapes.push(shape)?;
-        let (number, _) = self.spelled.insert_full(nodes).map_err(|_| NoMemory)?;
-        word(number)
+        let (number, _) = known(
+            self.spelled.insert_full(nodes).ok(),
+            Invariant::SubtypeTable,
+        )?;
+        word(number, Invariant::SubtypeTable)
     }
 
     /// The nodes of a pair.
@@ -81,11 +84,14 @@ impl EdgePairs {
     }
 
     /// The number of the pair with these nodes.
-    pub fn number(&self, nodes: &[Node]) -> Result<u32, NoMemory> {
-        word(self.spelled.get_index_of(nodes).ok_or(NoMemory)?)
+    pub fn number(&self, nodes: &[Node]) -> Result<u32, Failure> {
+        word(
+            known(self.spelled.get_index_of(nodes), Invariant::SubtypeTable)?,
+            Invariant::SubtypeTable,
+        )
     }
 
-    /// What is known of a pair's nodes, if there is such a pair.
+    /// The facts of a pair's nodes, if there is such a pair.
     pub fn shape(&self, number: u32) -> Option<NodeShape> {
         self.shapes.get(number as usize).copied()
     }
@@ -94,7 +100,7 @@ impl EdgePairs {
 /// No number yet.
 const NONE: u32 = u32::MAX;
 
-/// The numbers that variables get, by those that they have, and those that they have, by those that they get.
+/// The new numbers of variables by their old ones, and the old numbers by the new ones.
 #[derive(Drop)]
 struct Numbers {
     new: Vec<u32>,
@@ -102,8 +108,8 @@ struct Numbers {
 }
 
 impl Numbers {
-    /// Numbers the variables in the order in which they come first.
-    fn of(alloc: Global, nodes: &[Node]) -> Result<Numbers, NoMemory> {
+    /// Numbers the variables in the order of their first occurrences.
+    fn of(alloc: Global, nodes: &[Node]) -> Result<Numbers, Failure> {
         let mut numbers = Numbers {
             new: vec![in alloc; NONE; free_number(nodes)? as usize]?,
             old: Vec::new(alloc),
@@ -116,20 +122,25 @@ impl Numbers {
         Ok(numbers)
     }
 
-    /// Gives a variable the next number, where it has none.
-    fn note(&mut self, number: u32) -> Result<(), NoMemory> {
-        if entry(&self.new, number as usize)? == NONE {
-            put(&mut self.new, number as usize, word(self.old.len())?)?;
+    /// Gives a variable the next number, if it has none.
+    fn note(&mut self, number: u32) -> Result<(), Failure> {
+        if entry(&self.new, number as usize, Invariant::SubtypeTable)? == NONE {
+            put(
+                &mut self.new,
+                number as usize,
+                word(self.old.len(), Invariant::SubtypeTable)?,
+                Invariant::SubtypeTable,
+            )?;
             self.old.push(number)?;
         }
         Ok(())
     }
 }
 
-/// The nodes with their variables numbered in the order in which they come first. That the new numbers are taken back to
-/// the old ones is tried.
+/// The nodes with their variables numbered in the order of their first occurrences. It is checked that the inverse renumbering gives
+/// the old nodes again.
 #[tactic(auto, using(crate::proofs::Renumbering::renumbers))]
-pub fn renumbered(alloc: Global, nodes: &[Node]) -> Result<Vec<Node>, NoMemory>
+pub fn renumbered(alloc: Global, nodes: &[Node]) -> Result<Vec<Node>, Failure>
     ensures { IfOk result (λ v. SameInstances nodes.now v.items) }
 {
     let numbers = Numbers::of(alloc, nodes)?;
@@ -141,7 +152,7 @@ pub fn renumbered(alloc: Global, nodes: &[Node]) -> Result<Vec<Node>, NoMemory>
 
 /// The nodes with the variables numbered by a list.
 #[tactic(auto, using(crate::proofs::Places::places))]
-fn renamed(alloc: Global, nodes: &[Node], numbers: &[u32]) -> Result<Vec<Node>, NoMemory>
+fn renamed(alloc: Global, nodes: &[Node], numbers: &[u32]) -> Result<Vec<Node>, Failure>
     ensures { IfOk result (λ v. v.items ≡ substitute (named numbers.now) nodes.now) }
 {
     let mut out = Vec::new(alloc);
@@ -151,7 +162,7 @@ fn renamed(alloc: Global, nodes: &[Node], numbers: &[u32]) -> Result<Vec<Node>, 
     Ok(out)
 }
 
-fn renamed_node(alloc: Global, node: &Node, numbers: &[u32]) -> Result<Node, NoMemory>
+fn renamed_node(alloc: Global, node: &Node, numbers: &[u32]) -> Result<Node, Failure>
     ensures { IfOk result (λ a. a ∷ [] ≡ value_of (named numbers.now) node.now) }
 {
     match node {
@@ -160,36 +171,36 @@ fn renamed_node(alloc: Global, node: &Node, numbers: &[u32]) -> Result<Node, NoM
     }
 }
 
-fn number_at(numbers: &[u32], at: usize) -> Result<u32, NoMemory>
+fn number_at(numbers: &[u32], at: usize) -> Result<u32, Failure>
     ensures { IfOk result (λ number. number ≡ get_or numbers.now at 0) }
 {
     if at < numbers.len() {
         Ok(numbers[at])
     } else {
-        Err(NoMemory)
+        broken(Invariant::SubtypeTable)
     }
 }
 
-/// Tries that two lists of nodes are equal.
+/// Checks that two lists of nodes are equal.
 #[tactic(auto, using(crate::proofs::Equal::equals))]
-pub fn try_equal(one: &[Node], other: &[Node]) -> Result<(), NoMemory>
+pub fn try_equal(one: &[Node], other: &[Node]) -> Result<(), Failure>
     ensures { IfOk result (λ _. one.now ≡ other.now) }
 {
     let at = difference(one, other);
     if at != one.len() {
-        return Err(NoMemory);
+        return broken(Invariant::SubtypeTable);
     }
     if at != other.len() {
-        return Err(NoMemory);
+        return broken(Invariant::SubtypeTable);
     }
     Ok(())
 }
 
-fn shape_of(nodes: &[Node], head: u32) -> Result<NodeShape, NoMemory> {
-    let below = nodes.first().ok_or(NoMemory)?.holds();
-    let upper = term_end(nodes, 0).ok_or(NoMemory)?;
+fn shape_of(nodes: &[Node], head: u32) -> Result<NodeShape, Failure> {
+    let below = known(nodes.first(), Invariant::SubtypeTable)?.holds();
+    let upper = known(term_end(nodes, 0), Invariant::SubtypeTable)?;
     let Some(Node::Class(_, above)) = nodes.get(upper) else {
-        return Err(NoMemory);
+        return broken(Invariant::SubtypeTable);
     };
     let above = *above as usize;
     let plain = counts_up(nodes, 1, below);
@@ -204,7 +215,7 @@ fn shape_of(nodes: &[Node], head: u32) -> Result<NodeShape, NoMemory> {
     })
 }
 
-/// Whether so many nodes from a place on are the variables 0, 1, 2 and so on.
+/// Whether n nodes from an index on are the variables 0, 1, 2 and so on.
 fn counts_up(nodes: &[Node], from: usize, count: usize) -> bool {
     for i in 0..count {
         match nodes.get(from.saturating_add(i)) {

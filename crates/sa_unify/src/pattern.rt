@@ -1,19 +1,20 @@
-//! Types with variables, spelled as a list of nodes: a node comes before those that it holds.
+//! Types with variables, spelled as a list of nodes in prefix order: a node comes before its children.
 
 ghost use Rattle.std.specs.Prelude.{◌≡◌, IfOk};
 ghost use Rattle.sa_unify.specs.Terms.{held};
 
-use sa_ast::{Mode, Name, NoMemory};
+use failure::Failure;
+use sa_ast::{Mode, Name};
 use std::alloc::Global;
 
 /// A node of a type.
 #[derive(Drop, PartialEq, Eq, Hash)]
 pub enum Node {
-    /// A variable by its number. It stands for any type, and for the same one wherever it comes.
+    /// A variable by its number. It stands for any type, and for the same one at each occurrence.
     Variable(u32),
     /// A class by its name, with the number of its arguments, which follow.
     Class(Name, u32),
-    /// A bound routine, with the number of nodes that it holds: for each argument its mode and its type, and the type
+    /// A bound routine, with the number of its children: for each argument its mode and its type, and the type
     /// of the result, if it has one.
     Routine(u32),
     /// A bound iter in the same way.
@@ -25,7 +26,7 @@ pub enum Node {
 }
 
 impl Node {
-    /// How many nodes it holds at its own level.
+    /// How many children it has.
     pub(crate) fn holds(&self) -> usize
         ensures { result ≡ held self.now }
     {
@@ -39,8 +40,8 @@ impl Node {
         }
     }
 
-    /// The same node once more. It fails only where memory runs out.
-    pub(crate) fn copy(&self, alloc: Global) -> Result<Node, NoMemory>
+    /// A copy of the node. It fails only if memory runs out.
+    pub(crate) fn copy(&self, alloc: Global) -> Result<Node, Failure>
         ensures { IfOk result (λ node. node ≡ self.now) }
     {
         Ok(match self {

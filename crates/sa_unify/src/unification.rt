@@ -1,4 +1,4 @@
-//! Unification: lists of nodes that are made equal by terms for their variables.
+//! Unification: lists of nodes are made equal by terms for their variables.
 
 ghost use Rattle.std.specs.Prelude.{◌≡◌, ◌↔◌, IsTrue, ◌≤◌, ◌∷◌, ◌++◌, [], IfOk, IfSome, Some, drop, length, max, option_map, take};
 ghost use Rattle.sa_unify.specs.Terms.{Differ, IsBound, IsStep, IsUnified, after, following, comes, free};
@@ -6,21 +6,21 @@ ghost use Rattle.sa_unify.specs.Terms.{is_variable, later, only, substitute, val
 
 use crate::pattern::Node;
 use crate::work::WorkBudget;
-use sa_ast::NoMemory;
+use failure::{Failure, Invariant, broken, known, limit};
 use std::alloc::Global;
 
-/// What is to be done next so that two lists of nodes become equal.
+/// The next step of a unification.
 #[derive(Drop)]
 pub(crate) enum Step {
-    /// They are equal.
+    /// The lists are equal.
     Equal,
-    /// Nothing: they never are.
+    /// The lists have no unifier.
     Never,
-    /// The variable has to stand for the term.
+    /// The variable has to be bound to the term.
     Bind(u32, Vec<Node>),
 }
 
-/// What the nodes `kept` become under a most general unifier of two lists of nodes. There is none where the lists have no
+/// What the nodes `kept` become under a most general unifier of two lists of nodes. There is none if the lists have no
 /// unifier.
 pub(crate) fn unify(
     alloc: Global,
@@ -28,7 +28,7 @@ pub(crate) fn unify(
     kept: Vec<Node>,
     one: Vec<Node>,
     other: Vec<Node>,
-) -> Result<Option<Vec<Node>>, NoMemory>
+) -> Result<Option<Vec<Node>>, Failure>
     ensures { IfOk result (λ unified. IsUnified kept.items one.items other.items (option_map (λ v. v.items) unified)) }
 {
     let mut kept = kept;
@@ -45,10 +45,10 @@ pub(crate) fn unify(
             }
         }
     }
-    Err(NoMemory)
+    limit()
 }
 
-/// What is to be done next at the first place where the two lists differ. Where both have a variable there, that of the
+/// The step at the first index where the two lists differ. If both have a variable there, that of the
 /// second is bound.
 #[tactic(auto, using(crate::proofs::Differences::steps))]
 fn next_step(
@@ -56,7 +56,7 @@ fn next_step(
     work: &mut WorkBudget,
     one: &[Node],
     other: &[Node],
-) -> Result<Step, NoMemory>
+) -> Result<Step, Failure>
     ensures { IfOk result (IsStep one.now other.now) }
 {
     work.units(one.len())?;
@@ -65,7 +65,7 @@ fn next_step(
         return ended(one, other, at);
     }
     if at == other.len() {
-        return Err(NoMemory);
+        return broken(Invariant::SubtypeTable);
     }
     match variable_at(other, at) {
         Some(number) => bound(alloc, number, one, at),
@@ -76,9 +76,9 @@ fn next_step(
     }
 }
 
-/// What is to be done where the first list has ended and the two don't differ.
+/// The step if the first list has ended and the two don't differ.
 #[tactic(auto, using(crate::proofs::Differences::steps))]
-fn ended(one: &[Node], other: &[Node], at: usize) -> Result<Step, NoMemory>
+fn ended(one: &[Node], other: &[Node], at: usize) -> Result<Step, Failure>
     requires at_end { at ≡ length one.now }
     requires same { take at one.now ≡ take at other.now }
     ensures { IfOk result (IsStep one.now other.now) }
@@ -86,18 +86,18 @@ fn ended(one: &[Node], other: &[Node], at: usize) -> Result<Step, NoMemory>
     if at == other.len() {
         Ok(Step::Equal)
     } else {
-        Err(NoMemory)
+        broken(Invariant::SubtypeTable)
     }
 }
 
-/// The variable bound to the term at a place, which can't be where the term holds the variable.
+/// The variable bound to the term at an index. It can't be bound if it occurs in the term.
 #[tactic(auto, using(crate::proofs::Differences::bounds))]
-fn bound(alloc: Global, number: u32, nodes: &[Node], at: usize) -> Result<Step, NoMemory>
+fn bound(alloc: Global, number: u32, nodes: &[Node], at: usize) -> Result<Step, Failure>
     requires { at ≤ length nodes.now }
     ensures { IfOk result (IsBound number (drop at nodes.now)) }
 {
     let Some(end) = term_end(nodes, at) else {
-        return Err(NoMemory);
+        return broken(Invariant::SubtypeTable);
     };
     let term = &nodes[at..end];
     if has_variable(term, number) {
@@ -107,7 +107,7 @@ fn bound(alloc: Global, number: u32, nodes: &[Node], at: usize) -> Result<Step, 
     Ok(Step::Bind(number, copy))
 }
 
-/// The first place at which the two lists differ, or at which one of them ends.
+/// The first index at which the two lists differ, or at which one of them ends.
 #[tactic(auto, using(crate::proofs::Places::places))]
 pub(crate) fn difference(one: &[Node], other: &[Node]) -> usize
     ensures same { take result one.now ≡ take result other.now }
@@ -132,7 +132,7 @@ fn is_same(one: &Node, other: &Node) -> bool
     *one == *other
 }
 
-/// The variable at a place, if there is one.
+/// The variable at an index, if there is one.
 fn variable_at(nodes: &[Node], at: usize) -> Option<u32>
     requires { at ≤ length nodes.now }
     ensures { result ≡ variable_in (drop at nodes.now) }
@@ -146,7 +146,7 @@ fn variable_at(nodes: &[Node], at: usize) -> Option<u32>
     }
 }
 
-/// The place behind the term that begins at a place, if it is whole.
+/// The index after the term that begins at an index, if it is whole.
 #[tactic(auto, using(crate::proofs::Places::places))]
 pub fn term_end(nodes: &[Node], at: usize) -> Option<usize>
     requires { at ≤ length nodes.now }
@@ -168,7 +168,7 @@ pub fn term_end(nodes: &[Node], at: usize) -> Option<usize>
     }
 }
 
-/// Whether a variable comes among the nodes.
+/// Whether a variable occurs in the nodes.
 #[tactic(auto, using(crate::proofs::Places::places))]
 fn has_variable(nodes: &[Node], number: u32) -> bool
     ensures { result ≡ comes number nodes.now }
@@ -190,14 +190,14 @@ fn is_variable(node: &Node, number: u32) -> bool
     }
 }
 
-/// The nodes with a term in place of a variable.
+/// The nodes with a term substituted for a variable.
 fn substitute_one(
     alloc: Global,
     work: &mut WorkBudget,
     nodes: &[Node],
     number: u32,
     term: &[Node],
-) -> Result<Vec<Node>, NoMemory>
+) -> Result<Vec<Node>, Failure>
     ensures { IfOk result (λ v. v.items ≡ substitute (only number term.now) nodes.now) }
 {
     let mut out = Vec::new(alloc);
@@ -213,8 +213,8 @@ fn substitute_one(
     Ok(out)
 }
 
-/// These nodes once more.
-pub(crate) fn copied(alloc: Global, nodes: &[Node]) -> Result<Vec<Node>, NoMemory>
+/// A copy of these nodes.
+pub(crate) fn copied(alloc: Global, nodes: &[Node]) -> Result<Vec<Node>, Failure>
     ensures { IfOk result (λ v. v.items ≡ nodes.now) }
 {
     let mut out = Vec::new(alloc);
@@ -223,7 +223,7 @@ pub(crate) fn copied(alloc: Global, nodes: &[Node]) -> Result<Vec<Node>, NoMemor
 }
 
 /// Adds copies of these nodes.
-pub(crate) fn add_all(alloc: Global, out: &mut Vec<Node>, nodes: &[Node]) -> Result<(), NoMemory>
+pub(crate) fn add_all(alloc: Global, out: &mut Vec<Node>, nodes: &[Node]) -> Result<(), Failure>
     ensures { IfOk result (λ _. out.new.items ≡ out.old.items ++ nodes.now) }
 {
     for node in nodes {
@@ -232,9 +232,9 @@ pub(crate) fn add_all(alloc: Global, out: &mut Vec<Node>, nodes: &[Node]) -> Res
     Ok(())
 }
 
-/// The nodes with each variable numbered that much later.
+/// The nodes with each variable's number increased by this much.
 #[tactic(auto, using(crate::proofs::Places::places))]
-pub(crate) fn shifted(alloc: Global, nodes: &[Node], more: u32) -> Result<Vec<Node>, NoMemory>
+pub(crate) fn shifted(alloc: Global, nodes: &[Node], more: u32) -> Result<Vec<Node>, Failure>
     ensures { IfOk result (λ v. v.items ≡ substitute (later more) nodes.now) }
 {
     let mut out = Vec::new(alloc);
@@ -244,18 +244,21 @@ pub(crate) fn shifted(alloc: Global, nodes: &[Node], more: u32) -> Result<Vec<No
     Ok(out)
 }
 
-fn shifted_node(alloc: Global, node: &Node, more: u32) -> Result<Node, NoMemory>
+fn shifted_node(alloc: Global, node: &Node, more: u32) -> Result<Node, Failure>
     ensures { IfOk result (λ a. a ∷ [] ≡ value_of (later more) node.now) }
 {
     match node {
-        Node::Variable(number) => Ok(Node::Variable(number.checked_add(more).ok_or(NoMemory)?)),
+        Node::Variable(number) => Ok(Node::Variable(known(
+            number.checked_add(more),
+            Invariant::SubtypeTable,
+        )?)),
         _ => node.copy(alloc),
     }
 }
 
-/// The number after those of all variables among the nodes.
+/// The number after those of all variables in the nodes.
 #[tactic(auto, using(crate::proofs::Places::places))]
-pub(crate) fn free_number(nodes: &[Node]) -> Result<u32, NoMemory>
+pub(crate) fn free_number(nodes: &[Node]) -> Result<u32, Failure>
     ensures { IfOk result (λ number. number ≡ free nodes.now) }
 {
     let mut number = 0u32;
@@ -266,16 +269,16 @@ pub(crate) fn free_number(nodes: &[Node]) -> Result<u32, NoMemory>
 }
 
 /// The number after that of a variable.
-fn after(node: &Node) -> Result<u32, NoMemory>
+fn after(node: &Node) -> Result<u32, Failure>
     ensures { IfOk result (λ number. number ≡ after node.now) }
 {
     match node {
-        Node::Variable(number) => number.checked_add(1).ok_or(NoMemory),
+        Node::Variable(number) => known(number.checked_add(1), Invariant::SubtypeTable),
         _ => Ok(0),
     }
 }
 
-/// The later of two numbers.
+/// The greater of two numbers.
 pub(crate) fn later_of(one: u32, other: u32) -> u32
     ensures { result ≡ max one other }
 {

@@ -1,6 +1,6 @@
 //! How much work the supertypes of a program may take.
 
-use sa_ast::NoMemory;
+use failure::{Failure, limit};
 
 /// How many units of work are done for the supertypes of one program: one for each step, and eight for each node that is
 /// written.
@@ -20,7 +20,7 @@ pub struct WorkBudget {
 }
 
 impl WorkBudget {
-    /// That of a program for which none has been done.
+    /// The budget of a program for which no work has been done.
     pub fn new() -> WorkBudget {
         WorkBudget { left: LIMIT }
     }
@@ -31,19 +31,26 @@ impl WorkBudget {
     }
 
     /// Counts one unit. It fails where the limit is passed.
-    pub fn unit(&mut self) -> Result<(), NoMemory> {
+    pub fn unit(&mut self) -> Result<(), Failure> {
         self.units(1)
     }
 
     /// Counts the writing of some nodes. It fails where the limit is passed.
-    pub fn nodes(&mut self, count: usize) -> Result<(), NoMemory> {
+    pub fn nodes(&mut self, count: usize) -> Result<(), Failure> {
         self.units(count.saturating_mul(NODE))
     }
 
     /// Counts some units. It fails where the limit is passed.
-    pub fn units(&mut self, count: usize) -> Result<(), NoMemory> {
-        let count = u32::try_from(count).map_err(|_| NoMemory)?;
-        self.left = self.left.checked_sub(count).ok_or(NoMemory)?;
-        Ok(())
+    pub fn units(&mut self, count: usize) -> Result<(), Failure> {
+        let Ok(count) = u32::try_from(count) else {
+            return limit();
+        };
+        match self.left.checked_sub(count) {
+            Some(left) => {
+                self.left = left;
+                Ok(())
+            }
+            None => limit(),
+        }
     }
 }

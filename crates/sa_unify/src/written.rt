@@ -1,6 +1,6 @@
 //! The edges that classes declare, each as the nodes of its two types.
 //!
-//! `class C < $A` and `abstract class $A > C` both declare that C is below $A.
+//! `class C < $A` and `abstract class $A > C` both declare that C is a subtype of $A.
 
 ghost use Rattle.std.specs.Prelude.{◌≡◌, ◌++◌, IfOk, Some, flat_map};
 ghost use Rattle.sa_unify.specs.Headers.{IsHeaderOf, place_in};
@@ -12,30 +12,31 @@ use crate::header::{Header, param_places};
 use crate::names::Names;
 use crate::pattern::Node;
 use crate::work::WorkBudget;
-use sa_ast::{Class, Name, NoMemory, Ty};
+use failure::{Failure, Invariant};
+use sa_ast::{Class, Name, Ty};
 use sa_graph::word;
 use std::alloc::Global;
 
-/// A declared edge: the lower class, the upper class, and the nodes of their types: the list of the lower type's
-/// arguments, and then the upper type.
+/// A declared edge: the class of the subtype, the class of the supertype, and the nodes of their types: the list of the subtype's
+/// arguments, and then the supertype.
 #[derive(Drop)]
 pub struct WrittenEdge {
-    /// The number of the lower class.
+    /// The number of the subtype's class.
     pub lower: u32,
-    /// The number of the upper class.
+    /// The number of the supertype's class.
     pub upper: u32,
     /// The nodes of the two types.
     pub nodes: Vec<Node>,
 }
 
-/// The edges of these classes in text order. A second class of one name declares nothing.
+/// The edges of these classes in source order. A second class of one name declares nothing.
 #[tactic(auto, using(crate::proofs::Declaring::class_steps))]
 pub fn written_edges(
     alloc: Global,
     work: &mut WorkBudget,
     classes: &[Class],
     names: &Names,
-) -> Result<Vec<WrittenEdge>, NoMemory>
+) -> Result<Vec<WrittenEdge>, Failure>
     ensures { IfOk result (λ edges. seen edges.items ≡ declared_edges (number_in names.now.places) classes.now) }
 {
     let mut edges = Vec::new(alloc);
@@ -45,7 +46,7 @@ pub fn written_edges(
     Ok(edges)
 }
 
-/// Adds the edges of the class at a place.
+/// Adds the edges of the class at an index.
 #[tactic(auto, using(crate::proofs::Declaring::class_steps))]
 fn add_class(
     alloc: Global,
@@ -54,7 +55,7 @@ fn add_class(
     names: &Names,
     place: usize,
     class: &Class,
-) -> Result<(), NoMemory>
+) -> Result<(), Failure>
     ensures { IfOk result (λ _. seen out.new.items ≡ seen out.old.items ++ edges_at (number_in names.now.places) place (Some class.now)) }
 {
     let Some(own) = names.number(&class.name.name) else {
@@ -74,10 +75,10 @@ fn header_of<'a>(
     names: &'a Names,
     own: u32,
     class: &'a Class,
-) -> Result<Header<'a>, NoMemory>
+) -> Result<Header<'a>, Failure>
     ensures { IfOk result (IsHeaderOf names.now own class.now) }
 {
-    let arity = word(class.params.len())?;
+    let arity = word(class.params.len(), Invariant::SubtypeTable)?;
     let params = param_places(alloc, class.params.as_slice())?;
     Ok(Header {
         alloc,
@@ -96,7 +97,7 @@ fn add_edges(
     work: &mut WorkBudget,
     header: &Header<'_>,
     class: &Class,
-) -> Result<(), NoMemory>
+) -> Result<(), Failure>
     ensures { IfOk result (λ _. seen out.new.items ≡ seen out.old.items ++ header_edges header.now class.now) }
 {
     add_all_below(out, work, header, class.below.as_slice())?;
@@ -110,7 +111,7 @@ fn add_all_below(
     work: &mut WorkBudget,
     header: &Header<'_>,
     types: &[Ty],
-) -> Result<(), NoMemory>
+) -> Result<(), Failure>
     ensures { IfOk result (λ _. seen out.new.items ≡ seen out.old.items ++ flat_map (below_edge header.now) types.now) }
 {
     for ty in types {
@@ -125,7 +126,7 @@ fn add_all_above(
     work: &mut WorkBudget,
     header: &Header<'_>,
     types: &[Ty],
-) -> Result<(), NoMemory>
+) -> Result<(), Failure>
     ensures { IfOk result (λ _. seen out.new.items ≡ seen out.old.items ++ flat_map (above_edge header.now) types.now) }
 {
     for ty in types {
@@ -134,14 +135,14 @@ fn add_all_above(
     Ok(())
 }
 
-/// Adds the edge from the class to a type, where the type is a class.
+/// Adds the edge from the class to a type, if the type is a class.
 #[tactic(auto, using(crate::proofs::Declaring::edge_steps))]
 fn add_below(
     out: &mut Vec<WrittenEdge>,
     work: &mut WorkBudget,
     header: &Header<'_>,
     ty: &Ty,
-) -> Result<(), NoMemory>
+) -> Result<(), Failure>
     ensures { IfOk result (λ _. seen out.new.items ≡ seen out.old.items ++ below_edge header.now ty.now) }
 {
     let Some(upper) = class_of(header, ty) else {
@@ -158,14 +159,14 @@ fn add_below(
     Ok(())
 }
 
-/// Adds the edge from a type to the class, where the type is a class.
+/// Adds the edge from a type to the class, if the type is a class.
 #[tactic(auto, using(crate::proofs::Declaring::edge_steps))]
 fn add_above(
     out: &mut Vec<WrittenEdge>,
     work: &mut WorkBudget,
     header: &Header<'_>,
     ty: &Ty,
-) -> Result<(), NoMemory>
+) -> Result<(), Failure>
     ensures { IfOk result (λ _. seen out.new.items ≡ seen out.old.items ++ above_edge header.now ty.now) }
 {
     let Some(lower) = class_of(header, ty) else {
@@ -182,7 +183,7 @@ fn add_above(
     Ok(())
 }
 
-/// The class that a type of the header is, where it is one: SAME is the class itself, and a parameter is none.
+/// The class that a type of the header is, if it is one: SAME is the class itself, and a parameter is none.
 #[tactic(auto, using(crate::proofs::Declaring::edges))]
 fn class_of(header: &Header<'_>, ty: &Ty) -> Option<u32>
     ensures { result ≡ class_number_in header.now ty.now }
@@ -215,7 +216,7 @@ fn class_alone(header: &Header<'_>, name: &Name) -> Option<u32>
 
 /// The nodes of an edge from the class to a type.
 #[tactic(auto, using(crate::proofs::Headers::headers))]
-fn nodes_below(header: &Header<'_>, ty: &Ty) -> Result<Vec<Node>, NoMemory>
+fn nodes_below(header: &Header<'_>, ty: &Ty) -> Result<Vec<Node>, Failure>
     ensures { IfOk result (λ nodes. nodes.items ≡ below_in header.now ty.now) }
 {
     let mut nodes = Vec::new(header.alloc);
@@ -227,7 +228,7 @@ fn nodes_below(header: &Header<'_>, ty: &Ty) -> Result<Vec<Node>, NoMemory>
 
 /// The nodes of an edge from a type to the class.
 #[tactic(auto, using(crate::proofs::Headers::headers))]
-fn nodes_above(header: &Header<'_>, ty: &Ty) -> Result<Vec<Node>, NoMemory>
+fn nodes_above(header: &Header<'_>, ty: &Ty) -> Result<Vec<Node>, Failure>
     ensures { IfOk result (λ nodes. nodes.items ≡ above_in header.now ty.now) }
 {
     let mut nodes = Vec::new(header.alloc);
@@ -238,12 +239,12 @@ fn nodes_above(header: &Header<'_>, ty: &Ty) -> Result<Vec<Node>, NoMemory>
 
 /// Spells the list of the arguments of a type after `>`.
 #[tactic(auto, using(crate::proofs::Declaring::edges, crate::proofs::Declaring::bound_types))]
-fn spell_lower(header: &Header<'_>, ty: &Ty, out: &mut Vec<Node>) -> Result<(), NoMemory>
+fn spell_lower(header: &Header<'_>, ty: &Ty, out: &mut Vec<Node>) -> Result<(), Failure>
     ensures { IfOk result (λ _. out.new.items ≡ out.old.items ++ lower_in header.now ty.now) }
 {
     match ty {
         Ty::Named(_, args, _) => {
-            out.push(Node::List(word(args.len())?))?;
+            out.push(Node::List(word(args.len(), Invariant::SubtypeTable)?))?;
             header.spell_types(out, args.as_slice())
         }
         Ty::Same(_) => {

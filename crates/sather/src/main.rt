@@ -1,9 +1,8 @@
-//! The program: the real store, streams and words for the top call.
+//! The program: the driver over the real store, streams and arguments.
 #![tactic(auto)]
 
-use host_io::{FileStore, ReadSource, Sink, WriteSink};
+use host_io::{FileStore, InputStore, ReadSource, Sink, WriteSink};
 use sa_driver::{Cause, NO_MEMORY, sather};
-use sa_input::InputStore;
 use std::alloc::Global;
 use std::env::{self, Env};
 use std::io::{self, BufReader, ErrorKind};
@@ -14,7 +13,7 @@ fn main(rt: HostRuntime) -> ExitCode {
     let mut err = WriteSink::new(rt.stderr());
     let words = match arguments(&rt, alloc) {
         Ok(words) => words,
-        // Words that aren't text are no command, and neither are no words.
+        // Arguments that aren't UTF-8 form no command, and neither does an empty command line.
         Err(error) if error.kind() == ErrorKind::InvalidData => Vec::new(alloc),
         Err(_) => return out_of_memory(&mut err),
     };
@@ -36,13 +35,13 @@ fn main(rt: HostRuntime) -> ExitCode {
     ExitCode::from(exit.status)
 }
 
-/// The end where there is no memory to begin with. As in the top call, the status stands where err fails.
+/// The end where there is no memory to begin with. As in the driver, the status doesn't change where err fails.
 fn out_of_memory(err: &mut impl Sink) -> ExitCode {
     let _ = err.put(NO_MEMORY);
     ExitCode::from(Cause::NoMemory.status())
 }
 
-/// The words of the command line without the program's name. The error is `InvalidData` where one isn't UTF-8, and else want of
+/// The arguments of the command line, without the program's name. The error is `InvalidData` where one isn't UTF-8, and else want of
 /// memory.
 fn arguments(rt: &(impl Env + AllocGlobal), alloc: Global) -> io::Result<Vec<String>> {
     Ok(env::args(rt)?.skip(1).collect(alloc)?)

@@ -1,4 +1,4 @@
-//! A case as the table tells it. The README describes the form.
+//! A case as the table states it. The README describes the form.
 
 use crate::text::{bytes_of, unescaped};
 use anyhow::{Context, Result, bail};
@@ -7,7 +7,7 @@ use std::alloc::Global;
 /// The one file of most cases.
 const PROGRAM: &str = "f.sa";
 
-/// A case: what a call is given, and what it has to leave.
+/// A case: a call, and its expected result.
 #[derive(Drop)]
 pub struct Case {
     pub name: String,
@@ -18,17 +18,17 @@ pub struct Case {
     pub wanted: ExpectedResult,
 }
 
-/// What a call has to leave.
+/// The expected result of a call.
 #[derive(Drop)]
 pub struct ExpectedResult {
     pub output: Vec<u8>,
-    /// Whether a front of the output is enough.
+    /// Whether a prefix of the output is enough.
     pub output_may_be_cut: bool,
     pub lines: Vec<u8>,
     pub status: u64,
 }
 
-/// The numbers of the calls that fail, from 0.
+/// The calls of each device that fail, by their numbers, from 0.
 #[derive(Drop)]
 pub struct FailingCalls {
     pub store: Vec<u64>,
@@ -38,8 +38,8 @@ pub struct FailingCalls {
 }
 
 impl Case {
-    /// Reads a case of a text that begins with its name. Where it tells no command, it has these words. It fails where a line
-    /// has none of the forms that the README describes.
+    /// Reads a case from a text that begins with its name. Where it has no command of its own, it has these arguments. It fails where a
+    /// line has none of the forms that the README describes.
     pub fn read(alloc: Global, words: &[String], text: &str) -> Result<Case> {
         let mut parts = text.split("\n--- ");
         let mut case = Case::reported(alloc, words, parts.next().unwrap_or(""))?;
@@ -49,7 +49,7 @@ impl Case {
         Ok(case)
     }
 
-    /// Reads the case of a program that has a file of its own: its head comment tells it. It fails where that is no case.
+    /// Reads the case of a program that has a file of its own: its head comment states the case. It fails where that is no case.
     pub fn of_program(alloc: Global, source: &str) -> Result<Case> {
         let head = head_comment(alloc, source)?;
         let text = head
@@ -61,7 +61,7 @@ impl Case {
         Ok(case)
     }
 
-    /// The case that the lines before the parts tell.
+    /// The case that the lines before the parts state.
     fn reported(alloc: Global, words: &[String], text: &str) -> Result<Case> {
         let mut lines = text.lines();
         let mut case = Case {
@@ -108,7 +108,7 @@ impl Case {
         )
     }
 
-    /// Reads a part: its heading, and the text behind it.
+    /// Reads a part: its heading, and the text after it.
     fn read_part(&mut self, alloc: Global, part: &str) -> Result<()> {
         let (heading, text) = part.split_once('\n').unwrap_or((part, ""));
         let (name, form) = name_and_form(heading);
@@ -145,7 +145,7 @@ impl ExpectedResult {
         }
     }
 
-    /// Reads a line that says what is wanted, by its first word. Gives false where this is no such word.
+    /// Reads a line that states an expected result, by its first word. Gives false where this is no such word.
     fn read(&mut self, alloc: Global, word: &str, rest: &str) -> Result<bool> {
         match word {
             "accepted" => self.output = unescaped(alloc, "accepted\\n")?,
@@ -168,7 +168,7 @@ impl ExpectedResult {
         Ok(true)
     }
 
-    /// Adds a line on err that begins with the program's name, and sets the status.
+    /// Adds an expected line on err that begins with the program's name, and sets the expected status.
     fn tell_of_program(&mut self, alloc: Global, rest: &str, status: u64) -> Result<()> {
         let line = format!(in alloc; "{PROGRAM}:{rest}")?;
         self.tell(line.as_str())?;
@@ -176,7 +176,7 @@ impl ExpectedResult {
         Ok(())
     }
 
-    /// Adds a line on err.
+    /// Adds an expected line on err.
     fn tell(&mut self, line: &str) -> Result<()> {
         self.lines.extend_from_slice(line.as_bytes())?;
         self.lines.push(b'\n')?;
@@ -209,7 +209,7 @@ impl FailingCalls {
     }
 }
 
-/// The words of a command.
+/// The arguments of a command.
 pub fn arguments_of(alloc: Global, text: &str) -> Result<Vec<String>> {
     let mut words = Vec::new(alloc);
     for word in text.split_ascii_whitespace() {
@@ -234,7 +234,7 @@ fn numbers(alloc: Global, text: &str) -> Result<Vec<u64>> {
     Ok(numbers)
 }
 
-/// The name and the form that a heading tells, the form in parentheses.
+/// The name and the form that a heading contains, the form in parentheses.
 fn name_and_form(heading: &str) -> (&str, Option<&str>) {
     match heading.strip_suffix(")") {
         Some(front) => match front.rsplit_once(" (") {

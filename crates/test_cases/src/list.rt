@@ -7,14 +7,14 @@ use std::alloc::Global;
 /// The cases of a file, as texts.
 #[derive(Drop)]
 pub struct List<'a> {
-    /// The words of the command of a case that tells none.
+    /// The arguments of the command of a case that has none of its own.
     pub words: Vec<String>,
     /// The text of each case, from its name on.
     pub texts: Vec<&'a str>,
 }
 
 impl<'a> List<'a> {
-    /// Parts a file into its cases. It fails where the head has a line that is neither empty, a comment nor a command.
+    /// Splits a file into its cases. It fails where the head has a line that is neither empty, a comment nor a command.
     pub fn read(alloc: Global, text: &'a str) -> Result<List<'a>> {
         let mut texts = Vec::new(alloc);
         let mut pieces = text.split("\n=== ");

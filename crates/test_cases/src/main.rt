@@ -1,5 +1,4 @@
-//! Runs the table of cases through the top call, over objects in memory, and prints what differs; then checks sources that are
-//! nearly right.
+//! Runs the table of cases through the driver, over objects in memory, and prints what differs; then checks sources that are nearly right.
 #![tactic(auto)]
 
 mod case;
@@ -29,7 +28,7 @@ fn main(rt: HostRuntime) -> Result<ExitCode> {
     Ok(ExitCode::SUCCESS)
 }
 
-/// Whether each case of the table is as it should be. Prints those that differ.
+/// Whether each case of the table passes. Prints those that don't.
 fn run_table<R: Files + AllocGlobal + Print + Clone + Drop>(rt: &R, alloc: Global) -> Result<bool> {
     let files = table_files(rt, alloc)?;
     ensure!(!files.is_empty(), "the table has no files");
@@ -42,7 +41,7 @@ fn run_table<R: Files + AllocGlobal + Print + Clone + Drop>(rt: &R, alloc: Globa
     Ok(right)
 }
 
-/// Whether each case of a file of this text is as it should be.
+/// Whether each case of a file of this text passes.
 fn run_file(
     rt: &(impl AllocGlobal + Print),
     alloc: Global,
@@ -59,19 +58,19 @@ fn run_file(
     run_list(rt, alloc, List::read(alloc, text)?)
 }
 
-/// Whether each case of a list is as it should be.
+/// Whether each case of a list passes.
 fn run_list(rt: &(impl AllocGlobal + Print), alloc: Global, list: List<'_>) -> Result<bool> {
     ensure!(!list.texts.is_empty(), "the list has no cases");
     let mut right = true;
     for text in list.texts.iter() {
-        let case = Case::read(alloc, list.arguments.as_slice(), text)?;
+        let case = Case::read(alloc, list.words.as_slice(), text)?;
         let as_wanted = run_case(rt, alloc, case)?;
         right = right && as_wanted;
     }
     Ok(right)
 }
 
-/// Whether a case is as it should be. Prints how it differs.
+/// Whether a case passes. Prints how its result differs.
 fn run_case(rt: &(impl AllocGlobal + Print), alloc: Global, case: Case) -> Result<bool> {
     let name = case.name.clone()?;
     match difference(alloc, case)? {
@@ -83,7 +82,8 @@ fn run_case(rt: &(impl AllocGlobal + Print), alloc: Global, case: Case) -> Resul
     }
 }
 
-/// Whether the neighbours of each line of `nearly.txt` are answered. Prints the lines of which some are not.
+/// Whether the neighbours of each line of `nearly.txt` are accepted or refused at a position in them. Prints the lines of which some are
+/// not.
 fn run_nearly_right(rt: &(impl Files + AllocGlobal + Print), alloc: Global) -> Result<bool> {
     let text = fs::read_to_string(rt, "nearly.txt").context("reading the sources")?;
     let mut right = true;

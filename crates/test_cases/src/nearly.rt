@@ -1,15 +1,15 @@
-//! Sources that are nearly right: each prefix of a source, and the source with each byte changed, left out or doubled. Each
-//! is checked, and has to be accepted, or refused at a place inside it, and nothing else.
+//! Sources that are nearly right: each prefix of a source, and the source with each byte changed, left out or doubled. Each is checked, and
+//! has to be accepted, or refused at a position in it, and nothing else.
 
 use anyhow::Result;
 use host_io::{MemSink, MemSource, MemStore};
 use sa_driver::{Cause, sather};
 use std::alloc::{AllocError, Global};
 
-/// The bytes that others are changed to.
+/// The bytes to which others are changed.
 const SIGNS: &'static [u8] = b" \n()[]{},;:.=/<>+-*^~#|_$!\"'\\@\x00\xff0189aAzZ";
 
-/// How many neighbours of a source are answered otherwise.
+/// How many neighbours of a source are neither accepted nor refused at a position in them.
 pub fn try_neighbours(alloc: Global, source: &[u8]) -> Result<u64> {
     let mut failed = 0u64;
     for at in 0..source.len() {
@@ -39,7 +39,7 @@ fn joined(alloc: Global, parts: [&[u8]; 3]) -> Result<Vec<u8>, AllocError> {
     Ok(text)
 }
 
-/// Whether a source is accepted, or refused at a place inside it.
+/// Whether a source is accepted, or refused at a position in it.
 fn is_answered(alloc: Global, source: Vec<u8>) -> Result<bool> {
     let length = source.len();
     let mut words = Vec::new(alloc);

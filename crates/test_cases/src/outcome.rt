@@ -1,14 +1,13 @@
-//! What a call leaves, compared with what its case asks for.
+//! The result of a call, compared with the expected one of its case.
 
 use crate::case::{Case, ExpectedResult};
 use anyhow::{Result, ensure};
 use bstr::BStr;
-use host_io::{MemSink, MemSource, MemStore};
+use host_io::{InputStore, MemSink, MemSource, MemStore};
 use sa_driver::{Exit, sather};
-use sa_input::InputStore;
 use std::alloc::Global;
 
-/// What the call of the case leaves otherwise than is wanted, or none.
+/// How the result of the case's call differs from the expected one, or `None` where it doesn't.
 pub fn difference(alloc: Global, case: Case) -> Result<Option<String>> {
     let Case {
         name: _name,
@@ -22,7 +21,7 @@ pub fn difference(alloc: Global, case: Case) -> Result<Option<String>> {
         MemStore::names_differ(files.as_slice()),
         "two files have one name"
     );
-    // As the program's store, it has the input as the file `-`.
+    // As in the program's store, the file `-` is the input.
     let whole = MemSource::new(Vec::from_slice(alloc, input.as_slice())?, Vec::new(alloc));
     let mut store = InputStore::new(alloc, MemStore::new(files, failing.store), whole);
     let mut input = MemSource::new(input, failing.input);
@@ -62,7 +61,7 @@ fn first_difference(
     Ok(None)
 }
 
-/// Whether the bytes are the wanted ones or, where these may be cut, a front of them.
+/// Whether the bytes are the expected ones or, where these may be cut, a prefix of them.
 fn is_wanted(wanted: &[u8], may_be_cut: bool, got: &[u8]) -> bool {
     got == wanted || (may_be_cut && wanted.starts_with(got))
 }

@@ -1,4 +1,4 @@
-//! The files of the table: they stand in folders, one for each subject, where the program runs.
+//! The files of the table: they are in folders, one for each subject, in the directory in which the program runs.
 
 use anyhow::{Context, Result};
 use std::alloc::Global;
@@ -19,7 +19,7 @@ pub fn table_files<R: Files + AllocGlobal + Clone + Drop>(
     Ok(files)
 }
 
-/// The paths of what stands in a folder, in the order of their names.
+/// The paths of the entries of a folder, in the order of their names.
 fn entries<R: Files + AllocGlobal + Clone + Drop>(
     rt: &R,
     alloc: Global,

@@ -1,4 +1,4 @@
-//! The forms in which a text is told: lines as they stand, parts with escapes and numbers of times, and hexadecimal digits.
+//! The forms in which a text is written: lines as they are, parts with escapes and repetitions, and hexadecimal digits.
 
 use anyhow::{Context, Result, bail};
 use std::alloc::Global;
@@ -14,7 +14,7 @@ pub fn bytes_of(alloc: Global, form: Option<&str>, text: &str) -> Result<Vec<u8>
     }
 }
 
-/// The lines as they stand. Empty ones at the end part the text from what follows.
+/// The lines as they are written. Empty ones at the end separate the text from what follows.
 fn lines(alloc: Global, text: &str) -> Result<Vec<u8>> {
     let mut bytes = unended(alloc, text)?;
     if !bytes.is_empty() {
@@ -40,7 +40,7 @@ fn parts(alloc: Global, text: &str) -> Result<Vec<u8>> {
     Ok(bytes)
 }
 
-/// Adds what a line tells: a number of times, and what stands there so often.
+/// Adds what a line states: a number of times, and the text that is repeated so often.
 fn push_part(alloc: Global, bytes: &mut Vec<u8>, line: &str) -> Result<()> {
     let (times, text) = line.split_once(' ').context("a part begins with a number")?;
     let times = times.parse::<u64>().context("a part begins with a number")?;
@@ -67,14 +67,14 @@ fn push_hex_line(alloc: Global, bytes: &mut Vec<u8>, line: &str) -> Result<()> {
     Ok(())
 }
 
-/// The bytes that a text with escapes stands for.
+/// The bytes that a text with escapes denotes.
 pub fn unescaped(alloc: Global, text: &str) -> Result<Vec<u8>> {
     let mut bytes = Vec::new(alloc);
     push_unescaped(alloc, &mut bytes, text, 0)?;
     Ok(bytes)
 }
 
-/// Adds the bytes that a text with escapes stands for, with the number in place of `\#`.
+/// Adds the bytes that a text with escapes denotes, with the number in place of `\#`.
 fn push_unescaped(alloc: Global, bytes: &mut Vec<u8>, text: &str, number: u64) -> Result<()> {
     let mut rest = text;
     for _ in 0..text.len() {
@@ -88,7 +88,7 @@ fn push_unescaped(alloc: Global, bytes: &mut Vec<u8>, text: &str, number: u64) -
     Ok(())
 }
 
-/// Adds what the escape behind a backslash stands for, and gives what is behind it.
+/// Adds what the escape after a backslash denotes, and gives the text after the escape.
 fn push_escape<'a>(
     alloc: Global,
     bytes: &mut Vec<u8>,

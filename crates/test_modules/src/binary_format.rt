@@ -1,19 +1,17 @@
-//! Reads modules and writes them again. Each line of `modules.txt` is a module as hexadecimal digits; what is printed is
+//! Reads modules and writes them again. Each line of `binary.txt` is a module as hexadecimal digits; what is printed is
 //! compared with the shortest spelling of each.
-#![tactic(auto)]
 
+use crate::LONGEST;
 use anyhow::{Context, Result};
 use std::alloc::Global;
 use std::fs;
 use wa_decode::decode;
 use wa_encode::encode;
 
-/// Modules are shorter than this, in bytes.
-const LONGEST: usize = 65_536;
-
-fn main(rt: HostRuntime) -> Result<()> {
+/// Prints each module of the file as it is written again.
+pub fn print(rt: &HostRuntime) -> Result<()> {
     let alloc = rt.alloc();
-    let modules = fs::read_to_string(&rt, "modules.txt").context("reading the modules")?;
+    let modules = fs::read_to_string(rt, "binary.txt").context("reading the modules")?;
     for line in modules.lines() {
         let again = recoded(alloc, line)?;
         println!(rt; "{again}")?;

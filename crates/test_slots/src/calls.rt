@@ -1,4 +1,4 @@
-//! Calls of a pool in an order of no pattern, and what it answers.
+//! Calls of a pool in an order of no pattern, and its answers.
 
 ghost use Rattle.std.specs.Prelude.{◌≡◌, ◌<◌, [], true, false, slice_index_or, slice_set, IfOk, OnOk};
 ghost use Rattle.test_slots.specs.Flags.{AreLive};
@@ -15,7 +15,7 @@ const SLOT_WORDS: u32 = 2;
 /// How many calls follow those that take all slots.
 const ROUNDS: u32 = 20_000;
 
-/// The calls as the module reads them, and the answers as it is to put them.
+/// The calls as the module reads them, and the answers as it is expected to put them.
 #[derive(Drop)]
 pub struct Calls {
     pub asked: Vec<u8>,
@@ -53,7 +53,7 @@ fn pool_of(alloc: Global, slot_words: u32) -> Result<Pool<VecMem>, AllocError>
     Ok(Pool::new(VecMem { words }, slot_words))
 }
 
-/// So many slots without a flag.
+/// This number of slots without a flag.
 fn no_flags(alloc: Global, len: usize) -> Result<Vec<bool>, AllocError>
     ensures { IfOk result (λ flags. AreLive [] flags.items) }
 {
@@ -124,7 +124,7 @@ fn is_set(flags: &[bool], slot: u32) -> bool
     }
 }
 
-/// Takes a slot, which gets a flag.
+/// Takes a slot and sets its flag.
 fn take(pool: &mut Pool<VecMem>, flags: &mut [bool]) -> Option<u32>
     requires { AreLive pool.old.live flags.old }
     ensures { AreLive pool.new.live flags.new }
@@ -138,7 +138,7 @@ fn take(pool: &mut Pool<VecMem>, flags: &mut [bool]) -> Option<u32>
     }
 }
 
-/// Gives a slot back, which loses its flag.
+/// Gives a slot back and clears its flag.
 fn give(pool: &mut Pool<VecMem>, flags: &mut [bool], slot: u32)
     requires live { AreLive pool.old.live flags.old }
     requires set { slice_index_or flags.old slot false ≡ true }

@@ -1,8 +1,9 @@
-//! A module that calls a pool as it is told by its input. A byte 0 takes a slot, whose number is put as two bytes; a byte 1 gives
-//! the slot back whose number is in the next two bytes. The lower byte is the first.
+//! A module that calls a pool as its input says. A byte 0 takes a slot, whose number is put as two bytes; a byte 1 gives the slot back
+//! whose number is in the next two bytes. The lower byte is the first.
 
+use failure::Failure;
 use sa_pool::code;
-use sa_runtime::template_ops::Op::{Br, Call, Do, Get, I32, Tee};
+use sa_runtime::template_ops::TemplateOp::{Br, Call, Do, Get, I32, Tee};
 use sa_runtime::templates::Template::{self, If, Line, Loop};
 use sa_runtime::templates::{Function, LocalCounts, functions};
 use sa_runtime::trace::Tracing;
@@ -12,7 +13,7 @@ use wa_syntax::opcode::{
     I32_ADD, I32_AND, I32_EQ, I32_EQZ, I32_SHL, I32_SHR_S, I32_SHR_U, I32_SUB,
 };
 use wa_syntax::{
-    Export, ExportKind, Func, FuncTy, Import, ImportKind, Limits, Module, NoMemory, ValTy, WasmName,
+    Export, ExportKind, Func, FuncTy, Import, ImportKind, Limits, Module, ValTy, WasmName,
 };
 
 /// The type of `get`, of `take` and of `main`.
@@ -44,7 +45,7 @@ const BASE: u32 = 8;
 /// How many bytes a slot has.
 const SLOT_BYTES: u32 = 16;
 
-/// The address of the first slot. The address 0 is one slot less, which gives the number -1.
+/// The address of the first slot. The address 0 is one slot less, to which the number -1 belongs.
 const FIRST: u32 = BASE + 8;
 
 /// How many pages the pool takes.
@@ -74,7 +75,7 @@ const BODY: &[Template] = &[
 const FUNCTIONS: [Function; 1] = [Function(GETS, LocalCounts(0, 1), BODY)];
 
 /// The module.
-pub fn driver(alloc: Global) -> Result<Module, NoMemory> {
+pub fn driver(alloc: Global) -> Result<Module, Failure> {
     Ok(Module {
         types: types(alloc)?,
         imports: imports(alloc)?,
@@ -89,7 +90,7 @@ pub fn driver(alloc: Global) -> Result<Module, NoMemory> {
     })
 }
 
-fn types(alloc: Global) -> Result<Items<FuncTy>, NoMemory> {
+fn types(alloc: Global) -> Result<Items<FuncTy>, Failure> {
     let mut types = Items::new(alloc);
     types.push(FuncTy {
         params: Items::new(alloc),
@@ -102,14 +103,14 @@ fn types(alloc: Global) -> Result<Items<FuncTy>, NoMemory> {
     Ok(types)
 }
 
-fn imports(alloc: Global) -> Result<Items<Import>, NoMemory> {
+fn imports(alloc: Global) -> Result<Items<Import>, Failure> {
     let mut imports = Items::new(alloc);
     imports.push(import(alloc, b"put", PUTS)?)?;
     imports.push(import(alloc, b"get", GETS)?)?;
     Ok(imports)
 }
 
-fn import(alloc: Global, name: &[u8], ty: u32) -> Result<Import, NoMemory> {
+fn import(alloc: Global, name: &[u8], ty: u32) -> Result<Import, Failure> {
     Ok(Import {
         module: WasmName::from_slice(alloc, b"env")?,
         name: WasmName::from_slice(alloc, name)?,
@@ -117,7 +118,7 @@ fn import(alloc: Global, name: &[u8], ty: u32) -> Result<Import, NoMemory> {
     })
 }
 
-fn funcs(alloc: Global) -> Result<Items<Func>, NoMemory> {
+fn funcs(alloc: Global) -> Result<Items<Func>, Failure> {
     let pool = code(alloc, BASE, SLOT_BYTES)?;
     let mut funcs = functions(alloc, &FUNCTIONS, Tracing::Off)?;
     funcs.push(pool.take)?;
@@ -125,7 +126,7 @@ fn funcs(alloc: Global) -> Result<Items<Func>, NoMemory> {
     Ok(funcs)
 }
 
-fn memories(alloc: Global) -> Result<Items<Limits>, NoMemory> {
+fn memories(alloc: Global) -> Result<Items<Limits>, Failure> {
     let mut memories = Items::new(alloc);
     memories.push(Limits {
         min: PAGES,
@@ -134,7 +135,7 @@ fn memories(alloc: Global) -> Result<Items<Limits>, NoMemory> {
     Ok(memories)
 }
 
-fn exports(alloc: Global) -> Result<Items<Export>, NoMemory> {
+fn exports(alloc: Global) -> Result<Items<Export>, Failure> {
     let mut exports = Items::new(alloc);
     exports.push(Export {
         name: WasmName::from_slice(alloc, b"main")?,

@@ -11,7 +11,7 @@ use host_io::{MemSink, MemSource};
 use wa_encode::encode;
 use wa_run::run_bytes;
 
-/// The module ends within so many steps.
+/// How many steps are enough for the module to end.
 const FUEL: u64 = 10_000_000;
 
 fn main(rt: HostRuntime) -> Result<()> {

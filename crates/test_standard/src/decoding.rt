@@ -11,7 +11,7 @@ const PREAMBLE: &[u8] = &[0x00, 0x61, 0x73, 0x6d, 0x01, 0x00, 0x00, 0x00];
 /// The types and functions of a module with one function, which has no argument and no result.
 const ONE_FUNCTION: &[u8] = &[0x01, 0x04, 0x01, 0x60, 0x00, 0x00, 0x03, 0x02, 0x01, 0x00];
 
-/// What is shown, some bytes, and whether they can stand where they are put.
+/// A label, some bytes, and whether they can be where they are put.
 type Case = (&'static str, &'static [u8], bool);
 
 /// Sections of a module. V8 says the same of each that isn't marked.
@@ -205,7 +205,7 @@ fn code_is_read_as_the_standard_says(rt: HostRuntime) -> Result<(), Fail> {
     Ok(())
 }
 
-/// A body in which so many blocks stand in one another.
+/// A body with so many nested blocks.
 fn nested(alloc: Global, blocks: usize) -> Result<Vec<u8>, Fail> {
     let mut body = Vec::new(alloc);
     body.push(0x00)?;

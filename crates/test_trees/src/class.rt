@@ -1,5 +1,4 @@
-//! Classes as text: each name with the byte where it stands, features with the number of their arguments and the forms of
-//! their statements.
+//! Classes as text: each name with the byte at which it is, features with the number of their arguments and the forms of their statements.
 
 use sa_ast::{Class, Feature, FeatureBody, Local, Stmt};
 use std::alloc::AllocError;
@@ -40,7 +39,7 @@ fn stmt(out: &mut String, stmt: &Stmt) -> Result<(), AllocError> {
     place(out, pos.at)
 }
 
-/// The name of the feature, the number of a constant, the number of arguments, the place, and the statements.
+/// The name of the feature, the number of a constant, the number of arguments, the position, and the statements.
 fn feature(out: &mut String, feature: &Feature) -> Result<(), AllocError> {
     local(out, &feature.name)?;
     if let FeatureBody::Const(_, number) = &feature.part {

@@ -1,4 +1,4 @@
-//! Contracts as text: the places of the class and the feature, and each condition as a tree, with the byte where it stands.
+//! Contracts as text: the positions of the class and the feature, and each condition as an AST, with the byte at which it is.
 
 use crate::expr::Printer;
 use sa_ast::{Condition, Contract};

@@ -1,11 +1,11 @@
-//! Expressions as text: each form in parentheses, with the byte where it stands.
+//! Expressions as text: each form in parentheses, with the byte at which it is.
 
 use sa_ast::{Expr, ExprArg, ExprReceiver, Mode, ModeTy, Name, Pos, Ty};
 use sqlite_items::Boxed;
 use std::alloc::AllocError;
 use std::fmt::Write;
 
-/// Writes trees, each with the byte where it stands.
+/// Writes ASTs, each with the byte at which it is.
 #[derive(Drop)]
 pub struct Printer {
     pub text: String,

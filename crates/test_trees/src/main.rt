@@ -1,6 +1,5 @@
-//! Shows what small sources are read to: an expression or a condition as a tree, a file as what its classes hold and its
-//! contracts. Each line of `expressions.txt`, `conditions.txt` and `files.txt` is a source. What is printed is compared with
-//! what the grammar says.
+//! Prints the ASTs of small sources: an expression or a condition as a tree, a file as its classes with their features, and its contracts.
+//! Each line of `expressions.txt`, `conditions.txt` and `files.txt` is a source. What is printed is compared with what the grammar says.
 #![tactic(auto)]
 
 ghost use Rattle.std.specs.Prelude.{◌<◌, All, IfOk, length, vec_len};
@@ -12,6 +11,7 @@ mod expr;
 
 use crate::expr::Printer;
 use anyhow::{Context, Result};
+use failure::Failure;
 use sa_ast::{Expr, Rejection};
 use sa_lexer::{Token, lex};
 use sa_parser::{FileKind, parse};
@@ -45,7 +45,7 @@ fn main(rt: HostRuntime) -> Result<()> {
     Ok(())
 }
 
-/// What was shown, or the rule that the source breaks and the byte where.
+/// The text of the AST, or the rule that the source breaks and the byte where.
 fn answer(alloc: Global, shown: Result<String, Rejection>) -> Result<String, AllocError> {
     match shown {
         Ok(text) => Ok(text),
@@ -54,7 +54,7 @@ fn answer(alloc: Global, shown: Result<String, Rejection>) -> Result<String, All
             let at = refusal.pos.at;
             format!(in alloc; " {rule} at {at}")
         }
-        Err(Rejection::NoMemory) => Err(AllocError),
+        Err(Rejection::Failed(_)) => Err(AllocError),
     }
 }
 
@@ -66,11 +66,11 @@ fn tokens_of(alloc: Global, src: &[u8]) -> Result<Vec<Token>, Rejection>
     ensures short { IfOk result (λ _. length src.now < LONGEST) }
 {
     if src.len() >= LONGEST {
-        return Err(Rejection::NoMemory);
+        return Err(Rejection::Failed(Failure::NoMemory));
     }
     let tokens = lex(alloc, src, 1)?;
     if tokens.len() >= LONGEST {
-        return Err(Rejection::NoMemory);
+        return Err(Rejection::Failed(Failure::NoMemory));
     }
     scan(alloc, tokens.as_slice(), 1)?;
     Ok(tokens)

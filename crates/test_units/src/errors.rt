@@ -1,6 +1,7 @@
 //! What the errors of `sa_ast` print.
 
-use sa_ast::{NoMemory, Pos, Rejection, Rule};
+use failure::{Failure, NoMemory};
+use sa_ast::{Pos, Rejection, Rule};
 use std::alloc::AllocError;
 
 #[test]
@@ -10,7 +11,9 @@ fn an_error_prints_its_cause(rt: HostRuntime) -> Result<(), AllocError> {
     let refused = Rejection::Refused(Rule::NestedTooDeep.at(pos));
     assert_eq!(rt; refused.to_string(alloc)?.as_str(), "E07: nested too deep");
     assert_eq!(rt;
-        Rejection::NoMemory.to_string(alloc)?.as_str(),
+        Rejection::Failed(Failure::NoMemory)
+            .to_string(alloc)?
+            .as_str(),
         "out of memory"
     );
     assert_eq!(rt; NoMemory.to_string(alloc)?.as_str(), "out of memory");

@@ -1,7 +1,6 @@
 //! A store over real files, and one in which the input is a file.
 
-use host_io::{FileStore, Outage, ReadFiles, SureSource, WriteFiles};
-use sa_input::InputStore;
+use host_io::{FileStore, InputStore, Outage, ReadFiles, SureSource, WriteFiles};
 use std::fs;
 use std::test::Fail;
 

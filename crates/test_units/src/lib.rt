@@ -1,6 +1,5 @@
-//! What single functions of the Sather half do that no clause says and that doesn't show in a program: the tokens of small
-//! texts, the order of a graph, the variables that an iter keeps, files and streams that are interrupted or fail, and the text
-//! of errors.
+//! Properties of single functions of the Sather half that no clause states and that don't show in a program: the tokens of small texts, the
+//! order of a graph, the variables of an iter that are saved, files and streams that are interrupted or fail, and the text of errors.
 #![tactic(auto)]
 
 #[cfg(test)]

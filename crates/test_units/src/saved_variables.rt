@@ -1,6 +1,6 @@
-//! The variables that an iter keeps while it is suspended.
+//! The variables of an iter that are saved while it is suspended.
 
-use sa_ast::NoMemory;
+use failure::Failure;
 use sa_cfg::{
     BasicBlock, CallOperation, CallTarget, CfgBody, CfgOperation, FaultExit, Handler, Terminator,
 };
@@ -9,7 +9,7 @@ use sa_prelude::BuiltinFeature;
 use sqlite_items::Items;
 use std::alloc::Global;
 
-/// A call of a feature without arguments, whose raise goes to a block.
+/// A call of a feature without arguments, whose handler is in a block.
 fn call(alloc: Global, recv: u32, value: u32, block: u32) -> CfgOperation {
     let raised = Handler {
         block,
@@ -33,7 +33,7 @@ fn call(alloc: Global, recv: u32, value: u32, block: u32) -> CfgOperation {
 }
 
 /// Block 0 sets variable 0, and yields.
-fn beginning(alloc: Global) -> Result<BasicBlock, NoMemory> {
+fn beginning(alloc: Global) -> Result<BasicBlock, Failure> {
     let mut steps = Items::new(alloc);
     steps.push(CfgOperation::SelfRef { to: 0 })?;
     let exit = Terminator::Suspend {
@@ -56,8 +56,8 @@ fn raising(alloc: Global) -> BasicBlock {
     }
 }
 
-/// Block 2 goes on behind the yield, in a protect: it sets variable 1, and then variable 0 by a call.
-fn guarded(alloc: Global) -> Result<BasicBlock, NoMemory> {
+/// Block 2 continues after the yield, in a protect: it sets variable 1, and then variable 0 by a call.
+fn guarded(alloc: Global) -> Result<BasicBlock, Failure> {
     let mut steps = Items::new(alloc);
     steps.push(CfgOperation::SelfRef { to: 1 })?;
     steps.push(call(alloc, 1, 0, 3))?;
@@ -68,7 +68,7 @@ fn guarded(alloc: Global) -> Result<BasicBlock, NoMemory> {
 }
 
 /// Block 3, a branch of the protect, reads variable 0.
-fn branch(alloc: Global) -> Result<BasicBlock, NoMemory> {
+fn branch(alloc: Global) -> Result<BasicBlock, Failure> {
     let mut steps = Items::new(alloc);
     steps.push(call(alloc, 0, 203, 1))?;
     Ok(BasicBlock {
@@ -78,7 +78,7 @@ fn branch(alloc: Global) -> Result<BasicBlock, NoMemory> {
 }
 
 /// An iter of two variables and these four blocks.
-fn iter(alloc: Global) -> Result<CfgBody, NoMemory> {
+fn iter(alloc: Global) -> Result<CfgBody, Failure> {
     let mut blocks = Items::new(alloc);
     blocks.push(beginning(alloc)?)?;
     blocks.push(raising(alloc))?;
@@ -99,7 +99,7 @@ fn iter(alloc: Global) -> Result<CfgBody, NoMemory> {
 #[test]
 fn what_a_raise_reads_is_kept_and_what_is_set_before_it_is_read_is_not(
     rt: HostRuntime,
-) -> Result<(), NoMemory> {
+) -> Result<(), Failure> {
     let body = iter(rt.alloc())?;
     let kept = saved_variables(rt.alloc(), &body)?;
     assert_eq!(rt; kept.as_slice(), [0].as_slice());

@@ -1,10 +1,10 @@
-//! A source and a sink over a stream that gives and takes a byte a call, is interrupted, and fails.
+//! A source and a sink over a stream that transfers one byte a call, is interrupted, and fails.
 
 use host_io::{Outage, ReadSource, Sink, Source, Take, WriteSink};
 use std::io::{self, ErrorKind, Read, Write};
 use std::test::Fail;
 
-/// A stream that reads from its last byte on and writes behind it, one byte a call, and whose calls fail as listed.
+/// A stream that reads from its last byte on and writes after it, one byte a call, and whose calls fail as listed.
 #[derive(Drop)]
 struct Rough<'a> {
     bytes: Vec<u8>,

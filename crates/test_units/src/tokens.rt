@@ -187,7 +187,7 @@ const SIGN_TEXTS: [(&[u8], &str); 8] = [
     (b"@", "E01: bad byte at 0"),
 ];
 
-/// The kind of a token, and what it stands for.
+/// The kind of a token, and its value.
 fn push_kind(line: &mut String, kind: &TokenKind) -> Result<(), AllocError> {
     match kind {
         TokenKind::Word(word) => write!(line, "word {word}"),
@@ -227,12 +227,12 @@ fn shown(alloc: Global, text: &[u8]) -> Result<String, AllocError>
             let at = refusal.pos.at;
             write!(line, "{rule} at {at}")?;
         }
-        Err(Rejection::NoMemory) => line.push_str("no memory")?,
+        Err(Rejection::Failed(_)) => line.push_str("no memory")?,
     }
     Ok(line)
 }
 
-/// Each text has the tokens that stand beside it, or breaks the rule.
+/// Each text has the tokens that are listed with it, or breaks the rule.
 fn expect_all(rt: &impl Abort, alloc: Global, cases: &[(&[u8], &str)]) -> Result<(), Fail> {
     for (text, want) in cases {
         assert!(rt; text.len() < 1000);

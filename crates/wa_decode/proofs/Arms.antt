@@ -13,7 +13,7 @@ use Rattle.wa_decode.proofs.Tails.{Starts}
 abbrev pub HasFirst : {V : Type 0} → (V → Format) → Type 0
 HasFirst {V = V} F = (w : V) (s : List ℕ) → F w s → (c : ℕ) × Starts c s
 
--- the values that begin with a byte: the byte, and behind it another value
+-- the values that begin with a byte: the byte, and after it another value
 pub record Arm {U V : Type 0} (F : V → Format) (A : U → Format) (b : ℕ) (con : U → V) : Type 0 where
   pub into : (u : U) (s : List ℕ) → (byte b then A u) s → F (con u) s
   pub only : (w : V) (s : List ℕ) → F w s → Starts b s → (u : U) × (w ≡ con u) × (byte b then A u) s

@@ -21,7 +21,7 @@ use Rattle.wa_decode.proofs.Reading.{pair, same_pair, after_read, as-ok, as-err}
 use Rattle.wa_decode.proofs.Sequences.{GoesOn}
 use Rattle.wa_decode.proofs.Tails.{Starts, starts-one, byte_starts}
 
--- ---- the opcode, and what is left behind it
+-- ---- the opcode, and the rest after it
 
 first_slice : (bytes : List ℕ) (at mid end op : ℕ) → Spelled (byte op) bytes at mid → mid ≤ end → slice_range bytes at end ≡ op ∷ slice_range bytes mid end
 first_slice bytes at mid end op h forward =
@@ -50,7 +50,7 @@ opcode-ok {F = F} {bytes = bytes} {at = at} {mid = mid} {end = end} {op = op} {v
 pub opcode-err : {V : Type 0} {F : V → Format} {bytes : List ℕ} {at mid op : ℕ} {e : DecodeFault} → HasFirst F → Reads byte bytes at (Ok (op, mid)) → Reads (following op F) bytes mid (Err e) → Reads F bytes at (Err e)
 opcode-err first h k = record { found = tt; complete = λ w to s. k.complete w to (left_behind w first h s) }
 
--- whatever was read behind it
+-- whatever was read after it
 pub opcode-any : {V : Type 0} {F : V → Format} {bytes : List ℕ} {at mid op : ℕ} {r : Result (V × ℕ) DecodeFault} → HasFirst F → Reads byte bytes at (Ok (op, mid)) → Reads (following op F) bytes mid r → Reads F bytes at r
 opcode-any {F = F} {bytes = bytes} {at = at} {mid = mid} {op = op} {r = r} first h k = record {
   found = IfOk-weaker r (λ read. Spelled (following op F read.0) bytes mid read.1) (λ read. Spelled (F read.0) bytes at read.1)
@@ -225,7 +225,7 @@ body-ok body = as-ok (λ (p : List Instr × Unit {0}). p.0) (λ (b : List Instr)
 pub body-err : {Body : List Instr → Format} {bytes : List ℕ} {at : ℕ} {e : DecodeFault} → Reads (pair Body the_end) bytes at (Err e) → Reads (λ (b : List Instr). Body b then byte 0x0b) bytes at (Err e)
 body-err = as-err (λ (b : List Instr). (b, tt)) (λ b s h. h)
 
--- ---- what every opcode of a block, a loop or a conditional has behind it
+-- ---- what every opcode of a block, a loop or a conditional has after it
 
 -- its type, a body, and the rest, which an `end` or an `else` begins
 structured-parts : (Body : List Instr → Format) (layer : Instr-F Instr) (op : ℕ) (s : List ℕ) → 0x02 ≤ number layer → number layer ≤ 0x04 → instr_over Body layer (op ∷ s) → (u : Option ValTy × (List Instr × List Instr)) × pair blocktype (pair Body (else_end Body)) u s
@@ -273,7 +273,7 @@ only-no_else Body w s h starts =
 pub arm-no_else : (Body : List Instr → Format) → Arm (else_end Body) no_more 0x0b (λ (u : Unit {0}). [])
 arm-no_else Body = record { into = λ u s h. inl (refl, into-plain 0x0b s h); only = only-no_else Body }
 
--- a mark that is no `else` is an `end`, where an `end` or an `else` stands
+-- a mark that is no `else` is an `end`, where there is an `end` or an `else`
 pub mark-end : {bytes : List ℕ} {at mid mark : ℕ} → Stops bytes at → Reads byte bytes at (Ok (mark, mid)) → (mark ≡ 0x05 → ⊥) → mark ≡ 0x0b
 mark-end stops h not_else =
     let here = (byte_only h.found).0 in

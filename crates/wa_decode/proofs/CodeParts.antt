@@ -33,7 +33,7 @@ types_of_runs-more (q ∷ runs) r =
     ap (λ (rest : List ValTy). replicate q.count q.ty ++ rest) (types_of_runs-more runs r)
     ∙ sym (append_assoc (replicate q.count q.ty) (types_of_runs runs) (replicate r.count r.ty))
 
--- of so many runs, the first were read, up to a place, and stand for these types
+-- of so many runs, the first were read, up to a position, and denote these types
 pub record RunsRow (bytes : List ℕ) (start count : ℕ) (types : List ValTy) (read at : ℕ) : Type 0 where
   pub runs : List LocalRun
   pub long : length runs ≡ read
@@ -118,7 +118,7 @@ types_of funcs = map (λ f. f.ty) funcs
 codes_vec : {bytes : List ℕ} {from end : ℕ} (types : List ℕ) (all : List Func) → Spelled (codes_of types all) bytes from end → Spelled (vec code all) bytes from end
 codes_vec types all s = record { forward = s.forward; within = s.within; spelling = s.spelling.1 }
 
--- of the functions with types of these numbers, the first were read, up to a place
+-- of the functions with types of these indices, the first were read, up to a position
 pub record CodeRow (bytes : List ℕ) (start : ℕ) (types : List ℕ) (funcs : List Func) (at : ℕ) : Type 0 where
   pub numbers : map (λ f. f.ty) funcs ≡ take (length funcs) types
   pub found : Spelled (each code funcs) bytes start at
@@ -136,7 +136,7 @@ unfolding types_of
 map-more [] f = refl
 map-more (g ∷ funcs) f = ap (λ (rest : List ℕ). g.ty ∷ rest) (map-more funcs f)
 
--- the type of the next function has the next number
+-- the type of the next function has the next index
 next_type : (funcs rest : List Func) (r : Func) (types : List ℕ) (ty : ℕ) → types_of (funcs ++ r ∷ rest) ≡ types → slice_get types (length funcs) ≡ Some ty → r.ty ≡ ty
 unfolding types_of
 next_type [] rest r [] ty same is = absurd (cc)
@@ -172,7 +172,7 @@ same_number [] i d e within = absurd (omega arith)
 same_number (n ∷ types) zero d e within = refl
 same_number (n ∷ types) (suc i) d e within = same_number types i d e (omega arith)
 
--- the number of the next function's type
+-- the index of the next function's type
 next_there : (types : List ℕ) (i n d : ℕ) → n ≡ i → i < length types → slice_get types n ≡ Some (get_or types i d)
 next_there types i n d here within =
     get_or-slice_get types n (omega (arith, here, within)) ∙ ap (λ (k : ℕ). Some (get_or types k 0)) here ∙ ap (λ (k : ℕ). Some k) (same_number types i 0 d within)

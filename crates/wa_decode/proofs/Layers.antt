@@ -17,7 +17,7 @@ use Rattle.wa_decode.proofs.Places.{none_here, none_only, split}
 use Rattle.wa_decode.proofs.Reading.{pair, same_read, none_read, nothing, as-ok, as-err}
 use Rattle.wa_decode.proofs.Tails.{Starts, starts-one, byte_starts}
 
--- ---- behind a byte that was read
+-- ---- after a byte that was read
 
 rest_of : {A : Format} (b : ℕ) (s : List ℕ) → (byte b then A) (b ∷ s) → A s
 rest_of {A = A} b s h =
@@ -25,7 +25,7 @@ rest_of {A = A} b s h =
     let same : s ≡ h.1 = cc in
     subst A (sym same) h.4
 
--- behind a first byte that is known to be another name of it
+-- after a first byte that is known to be another name of it
 pub behind_byte : {A : Format} (b op : ℕ) (s : List ℕ) → (byte b then A) (op ∷ s) → A s
 behind_byte {A = A} b op s h =
     let whole : op ∷ s ≡ b ∷ h.1 = h.2 ∙ ap (λ (front : List ℕ). front ++ h.1) h.3 in
@@ -242,9 +242,9 @@ no_layer Body op small plain access fixed layer s h =
 pub following-none : {V : Type 0} (F : V → Format) {bytes : List ℕ} {at op : ℕ} → ((w : V) (s : List ℕ) → F w (op ∷ s) → ⊥) → Reads (following op F) bytes at (Err Malformed)
 following-none F {bytes = bytes} {at = at} none = nothing (λ w to s. none w (slice_range bytes at to) s.spelling)
 
--- ---- the number behind the opcode
+-- ---- the number after the opcode
 
--- the opcodes behind which one number comes first
+-- the opcodes after which one number comes first
 abbrev pub IsIndexed : ℕ → Type 0
 IsIndexed n = ((0x0c ≤ n) × (n ≤ 0x0d)) ⊎ ((0x10 ≤ n) × (n ≤ 0x11)) ⊎ ((0x20 ≤ n) × (n ≤ 0x24))
 

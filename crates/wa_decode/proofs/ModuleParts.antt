@@ -219,7 +219,7 @@ segment-ok memory offset bytes = as-ok (λ (p : ℕ × (Init × List ℕ)). let 
 pub segment-err : {bytes : List ℕ} {at : ℕ} {e : DecodeFault} → Reads (pair u32 (pair init (vec byte))) bytes at (Err e) → Reads segment bytes at (Err e)
 segment-err = as-err (λ (t : DataSegment). (t.memory, (t.offset, t.bytes))) (λ t s h. h)
 
--- ---- what is exported, by its kind and its number
+-- ---- what is exported, by its kind and its index
 
 abbrev export_code : ExportKind → ℕ
 export_code (exported.Func x) = 0x00

@@ -1,4 +1,4 @@
--- The spelling of a module and its sections by their places.
+-- The spelling of a module and its sections by their positions.
 use Rattle.std.proofs.Common.{◌≡◌, ℕ, zero, suc, ◌+◌, ◌-◌, ◌<◌, ◌≤◌, ◌⊎◌, List, [], ◌∷◌, ◌++◌, length, map, take, drop, slice_get, slice_range, Bool, true, nat_eq, Option, None, Some, refl, sym, ap, subst, ◌∙◌, inl, inr, arith}
 use Rattle.std.proofs.lemmas.List.{drop-take, length-take}
 use Rattle.std.specs.Cmp.Lexicographic.{same_text}
@@ -14,7 +14,7 @@ use Rattle.wa_decode.proofs.Sections.{there_starts, customs-none, customs-here, 
 use Rattle.wa_decode.proofs.Sized.{slice_range-rest}
 use Rattle.wa_decode.proofs.Tails.{Starts, Passing, passing-customs, passing-section, Optional, optional-vecsec, optional-startsec, byte_starts, starts-one}
 
--- ---- what the sections behind a place begin with
+-- ---- what the sections after a position begin with
 
 customs-first : (cs : List (List ℕ × List ℕ)) (b : ℕ) (s : List ℕ) → each custom cs s → Starts b s → b ≡ 0
 customs-first [] b s h starts =
@@ -40,7 +40,7 @@ first_above low id S T (c ∷ cs) f g s b less optional above whole h rest start
     let front : Starts 0 f = (first.0 ++ h.1, h.2 ∙ ap (λ (front : List ℕ). front ++ h.1) first.1) in
     inl (starts-one b 0 s starts (front.0 ++ g, whole ∙ ap (λ (front : List ℕ). front ++ g) front.1))
 
--- sections with greater numbers than this one, and those that mean nothing
+-- sections with greater ids than this one, and custom ones
 pub record Rest (low : ℕ) (T : Format) : Type 0 where
   pub passing : Passing T
   pub above : (b : ℕ) (s : List ℕ) → T s → Starts b s → (b ≡ 0) ⊎ (low < b)
@@ -54,7 +54,7 @@ rest-section low id S T less optional rest = record {
   above = λ b s h starts. first_above low id S T h.3.0 h.0 h.1 s b less optional (λ t. rest.above b t) h.2 h.3.1 h.4 starts;
 }
 
--- ---- sections that mean nothing are passed over as far as they go
+-- ---- custom sections are skipped as far as they go
 
 pass_one : (fuel : ℕ) (T : Format) (bytes : List ℕ) (at : ℕ) (first : Option ℕ) → ((next : ℕ) → at < next → Spelled T bytes next (length bytes) → (place : ℕ) × PastCustoms bytes next place × Spelled T bytes place (length bytes)) → Passing T → slice_get bytes at ≡ first → Spelled T bytes at (length bytes) → (place : ℕ) × PastCustoms bytes at place × Spelled T bytes place (length bytes)
 pass_one fuel T bytes at None again passing is s =
@@ -78,7 +78,7 @@ greedy zero T bytes at short passing s = absurd (omega (arith, short))
 greedy (suc fuel) T bytes at short passing s =
     pass_one fuel T bytes at (slice_get bytes at) (λ next more r. greedy fuel T bytes next (omega (arith, more, short, r.forward)) passing r) passing refl s
 
--- ---- one section, and what is behind it
+-- ---- one section, and what is after it
 
 is_section : {V : Type 0} {id : ℕ} {bytes : List ℕ} {at : ℕ} (S : V → Format) (v : V) (T : Format) → 0 < id → Optional id (S v) → Rest id T → Spelled (customs then S v then T) bytes at (length bytes) → (end : ℕ) × IsSection id S bytes at v end × Spelled T bytes end (length bytes)
 is_section {id = id} {bytes = bytes} {at = at} S v T some optional rest s =
@@ -191,7 +191,7 @@ from_sections m bytes at end to s rest =
 whole_slice : (bytes : List ℕ) → slice_range bytes 0 (length bytes) ≡ bytes
 whole_slice bytes = slice_range-rest bytes 0
 
--- what stands in front of the sections
+-- what comes before the sections
 abbrev pub preamble : List ℕ
 preamble = 0x00 ∷ 0x61 ∷ 0x73 ∷ 0x6d ∷ 0x01 ∷ 0x00 ∷ 0x00 ∷ 0x00 ∷ []
 

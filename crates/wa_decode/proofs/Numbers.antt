@@ -10,7 +10,7 @@ use Rattle.wa_decode.specs.declared.fault.DecodeFault.TheVariants.{Malformed}
 use Rattle.wa_decode.specs.Reading.{Reads}
 use Rattle.wa_decode.proofs.Reading.{nothing}
 
--- what has no empty spelling ends behind its place
+-- what has no empty spelling ends after the position at which it begins
 forward_of : {V : Type 0} (IsSpelling : List ℕ → V → Type 0) (bytes : List ℕ) (at end : ℕ) (v : V) → (IsSpelling [] v → ⊥) → Spells IsSpelling bytes at end v → at ≤ end
 forward_of IsSpelling bytes at end v some h =
     elim (slice_range-cases bytes at end h.within) [

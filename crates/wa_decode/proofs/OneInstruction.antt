@@ -10,7 +10,7 @@ use Rattle.wa_decode.proofs.OneSpelling.{IsOne, one-byte, one-pair, one-as, one-
 use Rattle.wa_decode.proofs.Reading.{pair, same_pair}
 use Rattle.wa_decode.proofs.Tails.{Starts, byte_starts, starts-one}
 
--- ---- which opcodes stand for what
+-- ---- which opcodes denote what
 
 -- an opcode that is none of an instruction that is its opcode alone, nor of a load or a store
 abbrev pub IsOther : ℕ → Type 0
@@ -90,7 +90,7 @@ number (Instr-F.GlobalSet x) = 0x24
 number (Instr-F.I32Const n) = 0x41
 number (Instr-F.I64Const n) = 0x42
 
--- which kind of instruction an opcode stands for
+-- which kind of instruction an opcode denotes
 abbrev pub Stands : ℕ → ℕ → Type 0
 Stands n c = ((n ≡ 0x100) × IsPlain c) ⊎ ((n ≡ 0x101) × IsAccess c) ⊎ ((n ≡ c) × IsOther c)
 
@@ -157,7 +157,7 @@ first_of Body (Instr-F.GlobalSet x) s h = first-other 0x24 s (inr (inr (inl (ome
 first_of Body (Instr-F.I32Const n) s h = first-other 0x41 s (inr (inr (inr ((omega arith, omega arith))))) h
 first_of Body (Instr-F.I64Const n) s h = first-other 0x42 s (inr (inr (inr ((omega arith, omega arith))))) h
 
--- the first byte tells the kind
+-- the first byte decides the kind
 same_kind : (Body : List Instr → Format) (layer other : Instr-F Instr) (a b x y : List ℕ) → instr_over Body layer a → instr_over Body other b → a ++ x ≡ b ++ y → number layer ≡ number other
 same_kind Body layer other a b x y h k same =
     let f = first_of Body layer a h in
@@ -166,7 +166,7 @@ same_kind Body layer other a b x y h k same =
     let heads : f.c ≡ g.c = cc in
     occurs-one (number layer) (number other) g.c (subst (Stands (number layer)) heads f.occurs) g.occurs
 
--- an `end` or an `else` stands in front
+-- an `end` or an `else` comes first
 abbrev pub StopsAt : List ℕ → Type 0
 StopsAt s = Starts 0x0b s ⊎ Starts 0x05 s
 
@@ -215,7 +215,7 @@ layer-goes_on Body layer s x h stops =
           number-stop layer (inr (both.0 ∙ is))
     ]
 
--- ---- instructions one behind another
+-- ---- instructions one after another
 
 -- up to an `end` or an `else`, no spelling begins another's
 pub record IsOneUpTo {V : Type 0} (B : V → Format) : Type 0 where
@@ -250,7 +250,7 @@ each-up_to one_B goes_on (v ∷ vs) (w ∷ ws) a b x y h k stops stop same =
 pub one-each : {V : Type 0} {B : V → Format} → IsOne B → GoesOn B → IsOneUpTo (each B)
 one-each one_B goes_on = record { one = λ vs ws a b x y h k stops stop same. each-up_to one_B goes_on vs ws a b x y h k stops stop same }
 
--- what is one up to an `end` or an `else`, and behind it what begins with one
+-- what is one up to an `end` or an `else`, and after it what begins with one
 pub one-stopped : {U V : Type 0} {A : U → Format} {B : V → Format} → IsOneUpTo A → IsOne B → ((v : V) (s x : List ℕ) → B v s → StopsAt (s ++ x)) → IsOne (pair A B)
 one-stopped one_A one_B stops = record {
   one = λ v w a b x y h k same.
@@ -283,7 +283,7 @@ pub one-body : {Body : List Instr → Format} → IsOneUpTo Body → IsOne (λ (
 one-body {Body = Body} one_Body =
     one-as {P = pair Body the_end} (λ (body : List Instr). (body, tt)) (λ v w same. ap (λ (p : List Instr × Unit {0}). p.0) same) (λ v s h. h) (one-stopped one_Body one-end end-stops)
 
--- the second branch of a conditional, which may be left out, and the end
+-- the second branch of a conditional, which may be omitted, and the end
 abbrev pub else_end : (List Instr → Format) → List Instr → Format
 else_end Body no_branch s = ((no_branch ≡ []) × byte 0x0b s) ⊎ (byte 0x05 then Body no_branch then byte 0x0b) s
 

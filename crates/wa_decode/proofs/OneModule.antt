@@ -31,9 +31,9 @@ use Rattle.wa_decode.proofs.SectionRow.{coded}
 use Rattle.wa_decode.proofs.Sections.{HasContent, content-vecsec, content-startsec, content-codesec, start_content, Passed, content_at, bare_at, customs-none, past-split, vecsec-bare, startsec-bare, codesec-bare}
 use Rattle.wa_decode.proofs.Sized.{vec-from_counted}
 
--- ---- at places
+-- ---- at positions
 
--- what is spelled at a place ends at one place and is one value
+-- what is spelled at a position ends at one position and is one value
 pub one_at : {V : Type 0} {F : V → Format} {bytes : List ℕ} {at a b : ℕ} {v w : V} → IsOne F → Spelled (F v) bytes at a → Spelled (F w) bytes at b → (v ≡ w) × (a ≡ b)
 one_at {bytes = bytes} {at = at} {a = a} {b = b} {v = v} {w = w} one_F h k =
     let whole : slice_range bytes at a ++ drop a bytes ≡ slice_range bytes at b ++ drop b bytes = sym (drop_split bytes at a h.forward) ∙ drop_split bytes at b k.forward in
@@ -47,7 +47,7 @@ one_whole one_F v w s h k = (one_F.one v w s s [] [] h k refl).1
 one-counted : IsOne counted
 one-counted = one-as (λ (content : List ℕ). content) (λ v w same. same) vec-from_counted (one-vec one-byte)
 
--- ---- sections that mean nothing
+-- ---- custom sections
 
 past_one : (cs : List (List ℕ × List ℕ)) (bytes : List ℕ) (at p q : ℕ) → Spelled (each custom cs) bytes at p → slice_get bytes p ≢ Some 0 → PastCustoms bytes at q → p ≡ q
 past_one [] bytes at p q s over past =
@@ -64,7 +64,7 @@ past_one (c ∷ cs) bytes at p q s over past =
     let same = (one_at one-counted one two).1 in
     past_one cs bytes parts.mid p q parts.second over (subst (λ (m : ℕ). PastCustoms bytes m q) (sym same) other.2)
 
--- they end at one place
+-- they end at one position
 pub passed_at : {bytes : List ℕ} {at place : ℕ} → PastCustoms bytes at place → Passed bytes at place
 passed_at {bytes = bytes} {at = at} {place = place} past = record {
   past = past;
@@ -152,7 +152,7 @@ codesec_one indices s t =
 
 -- ---- the whole
 
--- a section from the same place
+-- a section from the same position
 from_place : {V : Type 0} {id : ℕ} {S : V → Format} {bytes : List ℕ} {at place end : ℕ} {v : V} → at ≡ place → IsSection id S bytes place v end → IsSection id S bytes at v end
 from_place {id = id} {S = S} {bytes = bytes} {end = end} {v = v} same s = subst (λ (n : ℕ). IsSection id S bytes n v end) (sym same) s
 

@@ -144,7 +144,7 @@ one-sized {B = B} one_B = record {
 
 -- ---- types
 
--- a value of one byte, where no byte stands for two
+-- a value of one byte, where no byte denotes two
 pub one-of_bytes : {V : Type 0} {F : V → Format} (code : V → ℕ) → ((v w : V) → code v ≡ code w → v ≡ w) → ((v : V) (s : List ℕ) → F v s → byte (code v) s) → IsOne F
 one-of_bytes code back down = one-as code back down one-byte
 
@@ -208,7 +208,7 @@ mut-down true s h = h
 pub one-mut : IsOne mut
 one-mut = one-of_bytes mut-code mut-back mut-down
 
--- a value behind a byte that says what it is
+-- a value after a byte that says what it is
 pub one-following : {V : Type 0} {B : V → Format} (b : ℕ) → IsOne B → IsOne (λ (v : V). byte b then B v)
 one-following {V = V} {B = B} b one_B =
     one-as {P = pair byte B} (λ (v : V). (b, v)) (λ v w same. ap (λ (p : ℕ × V). p.1) same) (λ v s h. h) (one-pair one-byte one_B)

@@ -1,4 +1,4 @@
--- Formats one behind another, at places.
+-- Formats one after another, at positions.
 use Rattle.std.proofs.Common.{◌≡◌, ℕ, zero, suc, ◌+◌, ◌-◌, ◌<◌, ◌≤◌, List, [], ◌∷◌, ◌++◌, length, take, drop, get_or, slice_get, slice_range, Some, refl, sym, ap, subst, ◌∙◌, arith, append_assoc}
 use Rattle.std.proofs.lemmas.List.{length-append}
 use Rattle.std.proofs.lemmas.List.Folds.{drop_split}
@@ -29,7 +29,7 @@ slice_range-append bytes at mid end first second =
     ∙ ap (λ (rest : List ℕ). slice_range bytes at mid ++ rest) (drop_split bytes mid end second)
     ∙ sym (append_assoc (slice_range bytes at mid) (slice_range bytes mid end) (drop end bytes)))
 
--- the one format up to a place, and behind it the other
+-- the one format up to a position, and after it the other
 pub join : {A B : Format} {bytes : List ℕ} {at mid end : ℕ} → Spelled A bytes at mid → Spelled B bytes mid end → Spelled (A then B) bytes at end
 join {bytes = bytes} {at = at} {mid = mid} {end = end} h k = record {
   forward = omega (arith, h.forward, k.forward);

@@ -1,4 +1,4 @@
--- Readers one behind another.
+-- Readers one after another.
 use Rattle.std.proofs.Common.{◌≡◌, ℕ, ◌+◌, ◌<◌, List, [], ◌∷◌, length, get_or, slice_get, slice_range, Some, refl, sym, ap, subst, ◌∙◌}
 use Rattle.std.specs.Prelude.{Result, Ok, Err, IsErrAnd}
 use Rattle.std.proofs.lemmas.Result.{IfOk-weaker, err_from_is_err_and}
@@ -17,7 +17,7 @@ none_read {end = end} {w = w} h k = h.complete w end k
 
 -- ---- two values
 
--- one value behind another
+-- one value after another
 abbrev pub pair : {U V : Type 0} → (U → Format) → (V → Format) → U × V → Format
 pair A B p = A p.0 then B p.1
 
@@ -25,7 +25,7 @@ pub same_pair : {U V : Type 0} (a c : U) (b d : V) → a ≡ c → b ≡ d → �
 same_pair {U = U} {V = V} a c b d first second =
     ap (λ (x : U). let p : U × V = (x, b) in p) first ∙ ap (λ (y : V). let p : U × V = (c, y) in p) second
 
--- what is spelled behind what was read
+-- what is spelled after what was read
 pub after_read : {U : Type 0} {A : U → Format} {B : Format} {bytes : List ℕ} {at mid end : ℕ} {u w : U} → Reads A bytes at (Ok (u, mid)) → Spelled (A w then B) bytes at end → (u ≡ w) × Spelled B bytes mid end
 after_read {B = B} {bytes = bytes} {end = end} h s =
     let parts = split s in
@@ -53,7 +53,7 @@ pair-none B h = record {
   complete = λ w to s. none_read {w = w.0} h (split s).first;
 }
 
--- ---- what is known in front of a value, or behind it
+-- ---- what is known before a value, or after it
 
 pub pass : {V : Type 0} {A : Format} {B : V → Format} {bytes : List ℕ} {at mid : ℕ} {r : Result (V × ℕ) DecodeFault} → Passes A bytes at (Ok mid) → Reads B bytes mid r → Reads (λ v. A then B v) bytes at r
 pass {A = A} {B = B} {bytes = bytes} {at = at} {mid = mid} {r = r} h k = record {

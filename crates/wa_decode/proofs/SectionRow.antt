@@ -17,9 +17,9 @@ use Rattle.wa_decode.specs.Codes.{codesec}
 use Rattle.wa_decode.specs.Sections.{IsSection, IsSections, ReadsTo}
 use Rattle.wa_decode.proofs.Reading.{same_pair}
 
--- ---- one behind another
+-- ---- one after another
 
--- the one value up to a place, and from there on the other
+-- the one value up to a position, and from there on the other
 pub record And {U V : Type 0} (R : U → ℕ → Type 0) (Q : U → ℕ → V → ℕ → Type 0) (p : U × V) (end : ℕ) : Type 0 where
   pub mid : ℕ
   pub first : R p.0 mid
@@ -48,7 +48,7 @@ and-none Q h = record {
   complete = λ w to s. h.complete w.0 s.mid s.first;
 }
 
--- ---- the sections, with the numbers of the functions' types for themselves
+-- ---- the sections, with the indices of the functions' types for themselves
 
 abbrev pub Parts_11 : Type 0
 Parts_11 = List DataSegment
@@ -174,6 +174,6 @@ module-ok types imports indices tables memories globals exports start elems func
 pub module-err : {bytes : List ℕ} {at : ℕ} {e : DecodeFault} → ReadsTo (parts_1 bytes at) (Err e) → ReadsTo (IsSections bytes at) (Err e)
 module-err h = record { found = tt; complete = λ n to s. h.complete (parts_of n) to (to_parts n s) }
 
--- the numbers of the types come as another list that is the same
+-- the indices of the types come as another list that is the same
 pub codes_as : {bytes : List ℕ} {at : ℕ} {indices others : List ℕ} {r : Result (List Func × ℕ) DecodeFault} → others ≡ indices → ReadsTo (IsSection 10 (codesec others) bytes at) r → ReadsTo (IsSection 10 (codesec indices) bytes at) r
 codes_as {bytes = bytes} {at = at} {r = r} same h = subst (λ (l : List ℕ). ReadsTo (IsSection 10 (codesec l) bytes at) r) same h

@@ -1,4 +1,4 @@
--- Sections by their places, and those that mean nothing in front of them.
+-- Sections by their positions, and the custom ones before them.
 use Rattle.std.proofs.Common.{◌≡◌, ◌≢◌, ℕ, ◌+◌, ◌-◌, ◌<◌, ◌≤◌, ◌⊎◌, List, [], ◌∷◌, ◌++◌, length, drop, map, slice_get, slice_range, Option, None, Some, refl, sym, ap, subst, ◌∙◌, inl, inr, arith}
 use Rattle.std.proofs.lemmas.Result.{err_from_is_err_and}
 use Rattle.std.specs.Prelude.{Result, Ok, Err, IsErrAnd}
@@ -17,9 +17,9 @@ use Rattle.wa_decode.proofs.Reading.{same_read, none_read}
 use Rattle.wa_decode.proofs.Sized.{Holds, slice_range-rest}
 use Rattle.wa_decode.proofs.Tails.{Starts}
 
--- ---- the byte at a place
+-- ---- the byte at a position
 
--- what begins with a byte has it at the place
+-- what begins with a byte has it at the position
 pub starts_there : {bytes : List ℕ} {at end b : ℕ} {A : Format} → Spelled A bytes at end → Starts b (slice_range bytes at end) → slice_get bytes at ≡ Some b
 starts_there {bytes = bytes} {at = at} {end = end} {b = b} s starts =
     let whole : Spelled (byte b then exactly starts.0) bytes at end = record { forward = s.forward; within = s.within; spelling = (b ∷ [], starts.0, starts.1, refl, refl) } in
@@ -31,13 +31,13 @@ there_starts bytes at end {b = b} some is =
     let here = slice_get-get_or bytes at b is in
     (slice_range bytes (at + 1) end, slice_range-more bytes at end here.0 some ∙ ap (λ (c : ℕ). c ∷ slice_range bytes (at + 1) end) here.1)
 
--- ---- sections that mean nothing
+-- ---- custom sections
 
 no_customs : (cs : List (List ℕ × List ℕ)) (bytes : List ℕ) (at end : ℕ) → slice_get bytes at ≢ Some 0 → Spelled (each custom cs) bytes at end → at ≡ end
 no_customs [] bytes at end over s = none_only s
 no_customs (c ∷ cs) bytes at end over s = absurd (over (byte_only (split (split s).first).first).0)
 
--- none stand where another byte does
+-- there is none where there is another byte
 pub customs-none : {bytes : List ℕ} {at end : ℕ} → slice_get bytes at ≢ Some 0 → Spelled binary.customs bytes at end → at ≡ end
 customs-none {bytes = bytes} {at = at} {end = end} over s =
     no_customs s.spelling.0 bytes at end over (record { forward = s.forward; within = s.within; spelling = s.spelling.1 })
@@ -85,15 +85,15 @@ customs_split (c ∷ cs) bytes at place is s over =
       (record { customs = record { forward = parts.second.forward; within = parts.second.within; spelling = (cs, parts.second.spelling) }; over = over }),
     )
 
--- the first of them, and what is behind it
+-- the first of them, and what is after it
 pub past-split : {bytes : List ℕ} {at place : ℕ} → slice_get bytes at ≡ Some 0 → PastCustoms bytes at place → (next : ℕ) × Spelled meaningless bytes (at + 1) next × PastCustoms bytes next place
 past-split {bytes = bytes} {at = at} {place = place} is past =
     let s = past.customs in
     customs_split s.spelling.0 bytes at place is (record { forward = s.forward; within = s.within; spelling = s.spelling.1 }) past.over
 
--- ---- the reader of sections that mean nothing
+-- ---- the reader of custom sections
 
--- the first of them were passed over, up to a place
+-- the first of them were skipped, up to a position
 pub record Over (bytes : List ℕ) (start at : ℕ) : Type 0 where
   pub found : Spelled binary.customs bytes start at
   pub complete : (place : ℕ) → PastCustoms bytes start place → PastCustoms bytes at place
@@ -117,7 +117,7 @@ over-err {place = place} is row h past =
 pub over-done : {bytes : List ℕ} {start at place : ℕ} → slice_get bytes at ≢ Some 0 → Over bytes start at → PastCustoms bytes start place → at ≡ place
 over-done over row past = customs-none over (row.complete _ past).customs
 
--- a section that means nothing, behind its number
+-- a custom section, after its id
 custom_of : {bytes : List ℕ} {at : ℕ} {front : List ℕ} {start to : ℕ} → Holds bytes at front start → Spelled meaningless bytes at to → (c : List ℕ × List ℕ) × Spelled (name c.0 then exactly c.1) front start (length front) × (length front ≡ to)
 custom_of {front = front} {start = start} {to = to} h s =
     let c : List ℕ × List ℕ = s.spelling.0 in
@@ -169,7 +169,7 @@ returned-to {Is = Is} r is h =
 
 -- ---- sections
 
--- what a section's format is made of: its number and its sized content, or no bytes
+-- what a section's format is made of: its id and its sized content, or no bytes
 pub record HasContent {V : Type 0} (id : ℕ) (B S : V → Format) : Type 0 where
   pub into : (v : V) (s : List ℕ) → (byte id then sized (B v)) s → S v s
   pub cases : (v : V) (s : List ℕ) → S v s → (s ≡ []) ⊎ (byte id then sized (B v)) s
@@ -180,7 +180,7 @@ content-vecsec id B = record {
   cases = λ v s h. elim h [ inl none ↦ inl none.1 | inr some ↦ inr some ];
 }
 
--- sections that mean nothing were passed over up to a place, and no other
+-- custom sections were skipped up to a position, and no other
 pub record Passed (bytes : List ℕ) (at place : ℕ) : Type 0 where
   pub past : PastCustoms bytes at place
   pub complete : (other : ℕ) → PastCustoms bytes at other → place ≡ other
@@ -193,7 +193,7 @@ section_at {id = id} {S = S} {bytes = bytes} {place = place} {to = to} {v = v} p
     let same : place ≡ is.place = passed.complete is.place is.past in
     (subst (λ (p : ℕ). Spelled (S v) bytes p to) (sym same) is.spelled, subst (λ (p : ℕ). p ≡ to → slice_get bytes p ≢ Some id) (sym same) is.left_out)
 
--- the content of a section whose number stands there
+-- the content of a section whose id is there
 pub content_at : {V : Type 0} {id : ℕ} {B S : V → Format} {bytes : List ℕ} {at place to : ℕ} (w : V) → HasContent id B S → Passed bytes at place → slice_get bytes place ≡ Some id → IsSection id S bytes at w to → Spelled (sized (B w)) bytes (place + 1) to
 content_at {id = id} {B = B} {bytes = bytes} {place = place} {to = to} w has passed is s =
     let here = section_at passed s in
@@ -231,7 +231,7 @@ section-err has passed is h = record {
 pub section-unread : {V : Type 0} {id : ℕ} {S : V → Format} {bytes : List ℕ} {at : ℕ} {e : DecodeFault} → ((place : ℕ) → PastCustoms bytes at place → e ≡ NoMemory) → ReadsTo (IsSection id S bytes at) (Err e)
 section-unread none = record { found = tt; complete = λ w to s. none s.place s.past }
 
--- the number doesn't stand there, so no bytes are the section
+-- the id isn't there, so no bytes are the section
 pub bare_at : {V : Type 0} {id : ℕ} {B S : V → Format} {bytes : List ℕ} {at place to : ℕ} (w : V) → HasContent id B S → Passed bytes at place → slice_get bytes place ≢ Some id → IsSection id S bytes at w to → S w [] × (place ≡ to)
 bare_at {id = id} {B = B} {S = S} {bytes = bytes} {place = place} {to = to} w has passed other s =
     let at_w = (section_at passed s).0 in

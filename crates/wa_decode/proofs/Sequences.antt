@@ -14,7 +14,7 @@ use Rattle.wa_decode.proofs.Vectors.{Behind, each-more}
 abbrev pub GoesOn : {V : Type 0} → (V → Format) → List ℕ → Type 0
 GoesOn {V = V} B bytes = (v : V) (at end : ℕ) → Spelled (B v) bytes at end → Stops bytes at → ⊥
 
--- the first values were read, up to a place
+-- the first values were read, up to a position
 pub record Begun {V : Type 0} (B : V → Format) (bytes : List ℕ) (start : ℕ) (values : List V) (at : ℕ) : Type 0 where
   pub found : Spelled (each B values) bytes start at
   pub complete : (all : List V) (end : ℕ) → Spelled (each B all) bytes start end → Stops bytes end → Behind B bytes at end values all

@@ -11,7 +11,7 @@ use Rattle.wa_syntax.proofs.Places.{length-slice_range}
 use Rattle.wa_decode.proofs.Places.{join, split}
 use Rattle.wa_decode.proofs.Reading.{same_read, none_read, nothing, after_read}
 
--- the content is the bytes of a front of these, from a place on
+-- the content is the bytes of a prefix of these, from a position on
 pub record Holds (bytes : List ℕ) (at : ℕ) (front : List ℕ) (start : ℕ) : Type 0 where
   pub starts : start ≤ length front
   pub found : Spelled (counted (drop start front)) bytes at (length front)
@@ -60,7 +60,7 @@ pub sized-past : {V : Type 0} {B : V → Format} {bytes : List ℕ} {at : ℕ} {
 sized-past {B = B} {bytes = bytes} {at = at} h k more is =
     subst (λ (fault : DecodeFault). Reads (λ w. sized (B w)) bytes at (Err fault)) (sym is) (sized-more h k more)
 
--- no bytes stand behind their number
+-- no bytes come after their count
 pub sized-none : {V : Type 0} {B : V → Format} {bytes : List ℕ} {at : ℕ} {e : DecodeFault} → ((content : List ℕ) (end : ℕ) → Spelled (counted content) bytes at end → e ≡ NoMemory) → Reads (λ w. sized (B w)) bytes at (Err e)
 sized-none none = record {
   found = tt;
@@ -69,7 +69,7 @@ sized-none none = record {
 
 -- ---- the bytes up to the end of the content
 
--- what stands behind a number of bytes ends so many bytes behind it
+-- what comes after a count of bytes ends so many bytes after it
 counted-ends : (bytes : List ℕ) (at size start : ℕ) (content : List ℕ) (end : ℕ) → Reads u32 bytes at (Ok (size, start)) → Spelled (counted content) bytes at end → (slice_range bytes start (start + size) ≡ content) × (start + size ≡ end) × (end ≤ length bytes)
 counted-ends bytes at size start content end h s =
     let after = after_read {w = length content} h s in

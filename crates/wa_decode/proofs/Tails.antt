@@ -1,4 +1,4 @@
--- Sections behind one another. Those that mean nothing may stand between any two, so what is spelled behind a place is the same after they were passed over.
+-- Sections one after another. Custom ones may be between any two, so what is spelled after a position is the same once they were skipped.
 use Rattle.std.proofs.Common.{◌≡◌, ℕ, ◌<◌, ◌⊎◌, List, [], ◌∷◌, ◌++◌, refl, sym, ap, subst, ◌∙◌, inl, inr, arith, append_assoc}
 use Rattle.wa_syntax.specs.Binary.{section, vecsec, custom, customs, startsec}
 use Rattle.wa_syntax.specs.Formats.{Format, ◌then◌, each, byte}
@@ -8,7 +8,7 @@ use Rattle.std.specs.Prelude.{Option, None, Some}
 abbrev pub Starts : ℕ → List ℕ → Type 0
 Starts id s = (rest : List ℕ) × (s ≡ id ∷ rest)
 
--- a section that means nothing, and behind it the same format
+-- a custom section, and after it the same format
 pub record PassesOne (T : Format) (s : List ℕ) : Type 0 where
   pub c : List ℕ × List ℕ
   pub front : List ℕ
@@ -17,7 +17,7 @@ pub record PassesOne (T : Format) (s : List ℕ) : Type 0 where
   pub spelled : custom c front
   pub tail : T back
 
--- what begins with 0 begins with a section that means nothing, and behind it the same format goes on
+-- what begins with 0 begins with a custom section, and after it the same format goes on
 pub record Passing (T : Format) : Type 0 where
   pub pass : (s : List ℕ) → T s → Starts 0 s → PassesOne T s
 
@@ -38,7 +38,7 @@ customs-pass (c ∷ cs) s h starts = record { c = c; front = h.0; back = h.1; wh
 pub passing-customs : Passing customs
 passing-customs = record { pass = λ s h starts. customs-pass h.0 s h.1 starts }
 
--- a section that may be left out
+-- a section that may be omitted
 pub record Optional (id : ℕ) (S : Format) : Type 0 where
   pub cases : (s : List ℕ) → S s → (s ≡ []) ⊎ Starts id s
 

@@ -9,13 +9,13 @@ use Rattle.wa_decode.specs.Reading.{Spelled, Reads}
 use Rattle.wa_decode.proofs.Places.{join, split, none_here, none_only}
 use Rattle.wa_decode.proofs.Reading.{none_read, after_read}
 
--- what stands behind some first values
+-- what comes after some first values
 pub record Behind {V : Type 0} (B : V → Format) (bytes : List ℕ) (at end : ℕ) (values all : List V) : Type 0 where
   pub rest : List V
   pub whole : all ≡ values ++ rest
   pub spelled : Spelled (each B rest) bytes at end
 
--- of so many values, the first were read, up to a place
+-- of so many values, the first were read, up to a position
 pub record Row {V : Type 0} (B : V → Format) (bytes : List ℕ) (start count : ℕ) (values : List V) (at : ℕ) : Type 0 where
   pub found : Spelled (each B values) bytes start at
   pub complete : (all : List V) (end : ℕ) → length all ≡ count → Spelled (each B all) bytes start end → Behind B bytes at end values all

@@ -1,5 +1,5 @@
--- Sections (5.5.2), and the module that they make, by the places where they begin.
--- Those that mean nothing are passed over as far as they go.
+-- Sections (5.5.2), and the module that they make, by the positions where they begin.
+-- Custom ones are skipped as far as they go.
 use Rattle.std.specs.Prelude.{◌≡◌, ◌≢◌, ℕ, List, map, slice_get, Some, Result, IfOk, MatchResult}
 use Rattle.wa_syntax.specs.declared.module.Module.{Module}
 use Rattle.wa_syntax.specs.Binary.{functype, tabletype, memtype, vecsec, customs, import, global, export, startsec, elem, code, segment}
@@ -9,16 +9,16 @@ use Rattle.wa_decode.specs.declared.fault.DecodeFault.{DecodeFault}
 use Rattle.wa_decode.specs.declared.fault.DecodeFault.TheVariants.{NoMemory}
 use Rattle.wa_decode.specs.Reading.{Spelled}
 
--- what a section that means nothing has behind its number: a name and any bytes, sized (5.5.3)
+-- what a custom section has after its id: a name and any bytes, sized (5.5.3)
 abbrev pub meaningless : Format
 meaningless bytes = (c : List ℕ × List ℕ) × sized (name c.0 then exactly c.1) bytes
 
--- from one place up to another there are sections that mean nothing, and no other behind them
+-- from one position up to another there are custom sections, and no other after them
 pub record PastCustoms (bytes : List ℕ) (at place : ℕ) : Type 0 where
   pub customs : Spelled binary.customs bytes at place
   pub over : slice_get bytes place ≢ Some 0
 
--- behind sections that mean nothing stands a value's section. Where that is left out, its number doesn't stand there
+-- after custom sections comes a value's section. Where that is omitted, its id isn't there
 pub record IsSection {V : Type 0} (id : ℕ) (S : V → Format) (bytes : List ℕ) (at : ℕ) (v : V) (end : ℕ) : Type 0 where
   pub place : ℕ
   pub past : PastCustoms bytes at place
@@ -40,7 +40,7 @@ IsSections bytes at m end =
     × (j : ℕ) × IsSection 10 (vecsec 10 code) bytes i m.funcs j
     × IsSection 11 (vecsec 11 segment) bytes j m.segments end
 
--- a call found such a value up to such a place
+-- a call found such a value up to such a position
 pub record ReadsTo {V : Type 0} (Is : V → ℕ → Type 0) (result : Result (V × ℕ) DecodeFault) : Type 0 where
   -- what was read is so
   pub found : IfOk result (λ read. Is read.0 read.1)

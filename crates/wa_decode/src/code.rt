@@ -15,10 +15,10 @@ use sqlite_items::Items;
 use std::alloc::Global;
 use wa_syntax::{Func, LocalRun, Locals};
 
-/// How many locals a function may declare.
+/// The most locals that a function may declare.
 const MAX_LOCALS: u64 = 1_000_000;
 
-/// Locals of one type in a row (5.5.13).
+/// A run: consecutive locals of one type (5.5.13).
 fn run(alloc: Global, bytes: &[u8], at: u32) -> Decoded<LocalRun>
     requires { length bytes.now < u32.MAX }
     ensures reads { Reads run bytes.now at result }
@@ -45,7 +45,7 @@ fn runs(alloc: Global, bytes: &[u8], at: u32) -> Decoded<Locals>
     Ok((locals, at))
 }
 
-/// The locals of a function, which may not be too many.
+/// The locals of a function, of which there are at most `MAX_LOCALS`.
 fn locals(alloc: Global, bytes: &[u8], at: u32) -> Decoded<Locals>
     requires { length bytes.now < u32.MAX }
     ensures reads { Reads locals bytes.now at result }
@@ -59,7 +59,7 @@ fn locals(alloc: Global, bytes: &[u8], at: u32) -> Decoded<Locals>
     }
 }
 
-/// A function whose type has the number `ty`: the size of its code, its locals and its body (5.5.13).
+/// A function whose type has the index `ty`: the size of its code, its locals and its body (5.5.13).
 fn code(alloc: Global, bytes: &[u8], at: u32, ty: u32) -> Decoded<Func>
     requires { length bytes.now < u32.MAX }
     ensures reads { Reads (code_of ty) bytes.now at result }
@@ -72,7 +72,7 @@ fn code(alloc: Global, bytes: &[u8], at: u32, ty: u32) -> Decoded<Func>
     Ok((Func { ty, locals, body }, end))
 }
 
-/// The functions whose types have these numbers: a vector of as many codes (5.5.13).
+/// The functions whose types have these indices: a vector of as many codes (5.5.13).
 pub fn codes(alloc: Global, bytes: &[u8], at: u32, types: &[u32]) -> Decoded<Items<Func>>
     requires { length bytes.now < u32.MAX }
     ensures reads { Reads (codes_of types.now) bytes.now at result }

@@ -16,7 +16,7 @@ use std::alloc::Global;
 use wa_syntax::Instr;
 use wa_syntax::opcode::{BLOCK, ELSE, END, IF, LOOP};
 
-/// How many blocks may be open at a place of a function.
+/// The most blocks that may be open at a point of a function.
 const MAX_NESTING: u32 = 1000;
 
 /// The instructions of a function, and their end (5.4.6).
@@ -31,7 +31,7 @@ pub fn expression(alloc: Global, bytes: &[u8], at: u32) -> Decoded<Items<Instr>>
     Ok((body, end))
 }
 
-/// Whether a sequence of instructions stops at a place: at an `end` or an `else`.
+/// Whether a sequence of instructions stops at a position: at an `end` or an `else`.
 fn stops(bytes: &[u8], at: u32) -> bool
     ensures within { IsTrue result → at < length bytes.now }
     ensures stops { IsTrue result ↔ Stops bytes.now at }
@@ -95,7 +95,7 @@ fn structured(alloc: Global, opcode: u8, bytes: &[u8], at: u32, levels: u32) -> 
     }
 }
 
-/// The second branch of an `if`, which may be left out, and the end (5.4.1).
+/// The second branch of an `if`, which may be omitted, and the end (5.4.1).
 #[cycle(instructions)]
 fn alternative(alloc: Global, bytes: &[u8], at: u32, levels: u32) -> Decoded<Items<Instr>>
     requires size { length bytes.now < u32.MAX }

@@ -12,10 +12,10 @@ use std::alloc::Global;
 use wa_syntax::Instr;
 use wa_syntax::opcode::*;
 
-/// The byte behind an instruction that works on the one table or memory without naming it (5.4.1, 5.4.4).
+/// The reserved byte after an instruction that works on the one table or memory without naming it (5.4.1, 5.4.4).
 const RESERVED: u8 = 0;
 
-/// An instruction whose opcode was read, up to the place after it.
+/// An instruction whose opcode was read, up to the position after it.
 pub fn simple(alloc: Global, opcode: u8, bytes: &[u8], at: u32) -> Decoded<Instr>
     requires size { length bytes.now < u32.MAX }
     requires place { at ≤ length bytes.now }
@@ -64,7 +64,7 @@ fn is_access(opcode: u8) -> bool
     )
 }
 
-/// A branch or a call (5.4.1): labels or the number of a function or a type follow.
+/// A branch or a call (5.4.1): labels or the index of a function or a type follow.
 fn control(alloc: Global, opcode: u8, bytes: &[u8], at: u32) -> Decoded<Instr>
     requires size { length bytes.now < u32.MAX }
     requires opcode { (0x0c ≤ opcode) × (opcode ≤ 0x11) × (IsBare opcode → ⊥) }
@@ -98,7 +98,7 @@ fn branch_table(alloc: Global, bytes: &[u8], at: u32) -> Decoded<Instr>
     Ok((Instr::br_table_of(alloc, labels, default)?, end))
 }
 
-/// A variable instruction (5.4.3): the number of a local or a global follows.
+/// A variable instruction (5.4.3): the index of a local or a global follows.
 fn variable(opcode: u8, bytes: &[u8], at: u32) -> Decoded<Instr>
     requires size { length bytes.now < u32.MAX }
     requires opcode { (0x20 ≤ opcode) × (opcode ≤ 0x24) }

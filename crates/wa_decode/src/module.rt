@@ -20,7 +20,7 @@ use wa_syntax::Module;
 /// What a module begins with: `\0asm`, and the version of the format.
 const PREAMBLE: [u8; 8] = [0x00, 0x61, 0x73, 0x6d, 0x01, 0x00, 0x00, 0x00];
 
-/// The module that bytes spell (5.5.15), in its integer part and with up to 1,000 blocks open at a place and up to
+/// The module that bytes spell (5.5.15), in its integer part and with up to 1,000 blocks open at a point and up to
 /// 1,000,000 locals in a function.
 ///
 /// `Malformed` comes where no module is spelled so. `NoMemory` comes where memory runs out.

@@ -1,4 +1,4 @@
-//! The grammar of the binary format (section 5.1): productions, and vectors of what they stand for.
+//! The grammar of the binary format (section 5.1): productions, and vectors of what they denote.
 
 ghost use Rattle.std.specs.Prelude.{ℕ, ◌<◌, List, length, IfOk};
 ghost use Rattle.wa_syntax.specs.Formats.{vec};
@@ -10,18 +10,18 @@ use crate::value::unsigned;
 use sqlite_items::Items;
 use std::alloc::Global;
 
-/// What is read at a place, with the place after it.
+/// What is read at a position, with the position after it.
 pub type Decoded<T> = Result<(T, u32), DecodeFault>;
 
-/// A production of the grammar: what bytes stand for.
+/// A production of the grammar: what bytes denote.
 pub trait Production {
-    /// What the bytes stand for.
+    /// What the bytes denote.
     type Value: Drop;
 
     /// Which bytes spell a value.
     ghost format: { Self.Value → List ℕ → Type 0 };
 
-    /// Reads what is spelled at a place.
+    /// Reads what is spelled at a position.
     ///
     /// `Malformed` comes where nothing is, as where the place is past the end, and `NoMemory` where memory runs out.
     fn read(alloc: Global, bytes: &[u8], at: u32) -> Decoded<Self::Value>

@@ -16,14 +16,14 @@ use sqlite_items::Items;
 use std::alloc::Global;
 use wa_syntax::Func;
 
-/// The number of sections that mean nothing.
+/// The id of custom sections.
 const CUSTOM: u8 = 0;
-/// The number of the section of the start function.
+/// The id of the section of the start function.
 const START: u8 = 8;
-/// The number of the section of the functions' codes.
+/// The id of the section of the functions' codes.
 const CODE: u8 = 10;
 
-/// Whether a section with this number begins at a place.
+/// Whether a section with this id begins at a position.
 fn begins(bytes: &[u8], at: u32, id: u8) -> bool
     ensures within { IsTrue result → at < length bytes.now }
     ensures begins { IsTrue result ↔ (slice_get bytes.now at ≡ Some id) }
@@ -31,7 +31,7 @@ fn begins(bytes: &[u8], at: u32, id: u8) -> bool
     matches!(bytes.get(at as usize), Some(byte) if *byte == id)
 }
 
-/// The place behind custom sections, of which there may be any number.
+/// The position after custom sections, of which there may be any number.
 pub fn customs(bytes: &[u8], at: u32) -> Result<u32, DecodeFault>
     requires size { length bytes.now < u32.MAX }
     requires place { at ≤ length bytes.now }
@@ -47,7 +47,7 @@ pub fn customs(bytes: &[u8], at: u32) -> Result<u32, DecodeFault>
     Ok(at)
 }
 
-/// The place behind a custom section (5.5.3), which has a name and any bytes behind it.
+/// The position after a custom section (5.5.3), which has a name and any bytes after it.
 fn custom(bytes: &[u8], at: u32) -> Result<u32, DecodeFault>
     requires { length bytes.now < u32.MAX }
     ensures ends { IfOk result (EndsIn bytes.now at) }
@@ -58,7 +58,7 @@ fn custom(bytes: &[u8], at: u32) -> Result<u32, DecodeFault>
     Ok(content.len() as u32)
 }
 
-/// The section of a vector, by its number. One that isn't there is an empty vector.
+/// The section of a vector, by its id. One that isn't there is an empty vector.
 pub fn vector_section<P: Production>(
     alloc: Global,
     bytes: &[u8],
@@ -97,7 +97,7 @@ pub fn start_section(bytes: &[u8], at: u32) -> Decoded<Option<u32>>
     Ok((Some(func), end))
 }
 
-/// The section of the codes of the functions whose types have these numbers (5.5.13). One that isn't there is that of no
+/// The section of the codes of the functions whose types have these indices (5.5.13). One that isn't there is that of no
 /// functions.
 pub fn code_section(alloc: Global, bytes: &[u8], at: u32, types: &[u32]) -> Decoded<Items<Func>>
     requires size { length bytes.now < u32.MAX }

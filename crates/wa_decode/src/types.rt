@@ -24,7 +24,7 @@ const FUNCTION: u8 = 0x60;
 /// The byte of a table's elements, which are functions.
 const FUNCTION_REFERENCE: u8 = 0x70;
 
-/// The type of a value that a byte stands for (5.3.1).
+/// The type of a value that a byte denotes (5.3.1).
 fn value_type(byte: u8) -> Option<ValTy>
     ensures found { IfSome result (λ ty. valtype ty (byte ∷ [])) }
     ensures complete { (ty : ValTy) → valtype ty (byte ∷ []) → result ≡ Some ty }

@@ -24,7 +24,7 @@ pub fn byte(bytes: &[u8], at: u32) -> Decoded<u8>
     }
 }
 
-/// A byte that can't be another one.
+/// This byte and no other.
 pub fn expect(bytes: &[u8], at: u32, wanted: u8) -> Result<u32, DecodeFault>
     requires { length bytes.now < u32.MAX }
     ensures ends { IfOk result (EndsIn bytes.now at) }
@@ -74,7 +74,7 @@ pub fn signed_64(bytes: &[u8], at: u32) -> Decoded<u64>
     }
 }
 
-/// The number of a type, a function, a table, a memory, a global, a local or a label (5.4.1, 5.5.1).
+/// The index of a type, a function, a table, a memory, a global, a local or a label (5.4.1, 5.5.1).
 pub struct Index;
 
 impl Production for Index {
@@ -99,7 +99,7 @@ pub fn byte_vector(bytes: &[u8], at: u32) -> Decoded<&[u8]>
     Ok((&content[start as usize..], content.len() as u32))
 }
 
-/// What comes in as many bytes as are told before it (5.5.2, 5.5.13): the bytes up to its end, and the place of its first.
+/// Content after its size (5.5.2, 5.5.13): the bytes up to its end, and the position of its first.
 pub fn sized(bytes: &[u8], at: u32) -> Decoded<&[u8]>
     requires { length bytes.now < u32.MAX }
     ensures holds { IfOk result (λ read. HoldsContent bytes.now at read.0.now read.1) }
@@ -115,7 +115,7 @@ pub fn sized(bytes: &[u8], at: u32) -> Decoded<&[u8]>
     }
 }
 
-/// Sized content ends where its bytes do.
+/// Sized content ends exactly where its size says.
 pub fn ends(content: &[u8], at: u32) -> Result<(), DecodeFault>
     ensures { MatchResult result (λ _. at ≡ length content.now) (λ fault. (at ≢ length content.now) × (fault ≡ Malformed)) }
 {

@@ -1,14 +1,14 @@
-//! The blocks that are open at a place of a function.
+//! The blocks that are open at a point of a function.
 
-/// How many blocks may be open at a place.
+/// The most blocks that may be open at a point.
 const MOST: usize = 1000;
 
-/// A block that is open.
+/// An open block.
 #[derive(Clone, Copy, Debug, PartialEq, Eq)]
 pub(crate) enum ControlFrame {
-    /// A `block`, a `loop`, or an `if` behind its `else`.
+    /// A `block`, a `loop`, or an `if` after its `else`.
     Block,
-    /// An `if` in front of an `else`.
+    /// An `if` before an `else`.
     If,
 }
 
@@ -20,7 +20,7 @@ pub(crate) struct Blocks {
 }
 
 impl Blocks {
-    /// None.
+    /// No open block.
     pub(crate) fn none() -> Blocks {
         Blocks {
             open: [ControlFrame::Block; MOST],
@@ -28,7 +28,7 @@ impl Blocks {
         }
     }
 
-    /// Opens one, or nothing where too many are open.
+    /// Opens a block, or gives nothing where `MOST` are open.
     pub(crate) fn begin(&mut self, block: ControlFrame) -> Option<()> {
         let place = self.open.get_mut(self.depth)?;
         *place = block;
@@ -36,7 +36,7 @@ impl Blocks {
         Some(())
     }
 
-    /// Closes the innermost one, or nothing where none is open.
+    /// Closes the innermost block, or gives nothing where none is open.
     pub(crate) fn finish(&mut self) -> Option<ControlFrame> {
         let depth = self.depth.checked_sub(1)?;
         self.depth = depth;

@@ -7,10 +7,10 @@ use crate::instruction::read_simple;
 use crate::reader::Reader;
 use wa_syntax::opcode::{BLOCK, ELSE, END, IF, LOOP};
 
-/// How many locals a function may declare.
+/// The most locals that a function may declare.
 const MOST_LOCALS: u64 = 1_000_000;
 
-/// The codes of so many functions.
+/// The code section: the codes of so many functions.
 pub(crate) fn read_bodies(reader: &mut Reader<'_>, functions: u32) -> Result<(), FormatError> {
     let wrong_count = reader.error(FormatErrorKind::CodeCount);
     if reader.number()? != functions {

@@ -1,10 +1,10 @@
-//! What the sections of a module list, but for the codes of functions.
+//! The entries of a module's sections, but for the codes of functions.
 
 use crate::error::{FormatError, FormatErrorKind};
 use crate::reader::Reader;
 use wa_syntax::opcode::{END, GLOBAL_GET, I32_CONST, I64_CONST};
 
-/// An entry of the section with a number, which lists entries.
+/// An entry of the section with this id, whose content is a vector of entries.
 pub(crate) fn read_entry(reader: &mut Reader<'_>, section: u8) -> Result<(), FormatError> {
     match section {
         1 => read_function_type(reader),

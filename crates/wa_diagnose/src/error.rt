@@ -1,9 +1,9 @@
 //! What is wrong with bytes that are no module, and where.
 
-/// What is wrong at a place.
+/// An error in bytes that are no module.
 #[derive(Clone, Copy, Debug, PartialEq, Eq)]
 pub struct FormatError {
-    /// The number of the byte, from 0.
+    /// The offset of the byte, from 0.
     pub at: usize,
     pub place: ModulePart,
     pub lack: FormatErrorKind,
@@ -12,15 +12,15 @@ pub struct FormatError {
 /// The part of a module that a byte is in.
 #[derive(Clone, Copy, Debug, PartialEq, Eq)]
 pub enum ModulePart {
-    /// What a module begins with, or where a section begins.
+    /// The preamble, or the id of a section.
     File,
-    /// The section with this number.
+    /// The section with this id.
     Section(u8),
-    /// The code of the function of the module's own with this number, from 0.
+    /// The code of one of the module's own functions, by its index among these, from 0.
     Body(u32),
 }
 
-/// What a module would have at a place, and the bytes don't.
+/// What is wrong: mostly what a module would have there and the bytes don't.
 #[derive(Clone, Copy, Debug, PartialEq, Eq)]
 pub enum FormatErrorKind {
     Magic,
@@ -53,7 +53,7 @@ pub enum FormatErrorKind {
 }
 
 impl FormatErrorKind {
-    /// What is wrong, in words.
+    /// The sentence that says what is wrong.
     pub fn text(self) -> &'static str {
         match self {
             FormatErrorKind::Magic => "a module begins with 00 61 73 6d.",

@@ -4,7 +4,7 @@ use crate::error::{FormatError, FormatErrorKind};
 use crate::reader::Reader;
 use wa_syntax::opcode::*;
 
-/// What follows an opcode that was read at a place.
+/// What follows an opcode that was read at a position.
 pub(crate) fn read_simple(
     reader: &mut Reader<'_>,
     opcode: u8,

@@ -1,9 +1,9 @@
-//! Bytes that are read from front to back.
+//! A reader that goes through bytes from first to last.
 
 use crate::error::{FormatError, FormatErrorKind, ModulePart};
 use wa_syntax::{read_i32, read_i64, read_u32};
 
-/// Bytes up to an end, of which those in front of a place are read.
+/// Bytes up to an end, of which those before `at` are read.
 #[derive(Clone, Copy)]
 pub(crate) struct Reader<'a> {
     bytes: &'a [u8],
@@ -20,7 +20,7 @@ impl<'a> Reader<'a> {
         }
     }
 
-    /// The number of the next byte.
+    /// The offset of the next byte.
     pub(crate) fn at(&self) -> usize {
         self.at
     }
@@ -30,12 +30,12 @@ impl<'a> Reader<'a> {
         self.bytes.len().saturating_sub(self.at)
     }
 
-    /// What is wrong at the next byte.
+    /// An error at the next byte.
     pub(crate) fn error(&self, lack: FormatErrorKind) -> FormatError {
         self.error_at(self.at, lack)
     }
 
-    /// What is wrong at a byte.
+    /// An error at a byte.
     pub(crate) fn error_at(&self, at: usize, lack: FormatErrorKind) -> FormatError {
         FormatError {
             at,
@@ -55,7 +55,7 @@ impl<'a> Reader<'a> {
         }
     }
 
-    /// A byte that can't be another one.
+    /// This byte and no other.
     pub(crate) fn expect(&mut self, wanted: u8, lack: FormatErrorKind) -> Result<(), FormatError> {
         let at = self.at;
         if self.byte()? == wanted {
@@ -65,7 +65,7 @@ impl<'a> Reader<'a> {
         }
     }
 
-    /// Bytes that can't be others.
+    /// These bytes and no others.
     pub(crate) fn expect_all(
         &mut self,
         wanted: &[u8],
@@ -129,7 +129,7 @@ impl<'a> Reader<'a> {
         read_i64(self.bytes, u32::try_from(self.at).ok()?)
     }
 
-    /// What is wrong where no number is.
+    /// The error where no number is spelled.
     fn no_number(&self) -> FormatError {
         self.error(if self.left() == 0 {
             FormatErrorKind::UnexpectedEnd
@@ -138,7 +138,7 @@ impl<'a> Reader<'a> {
         })
     }
 
-    /// So many numbers as are counted in front of them.
+    /// A vector of numbers.
     pub(crate) fn numbers(&mut self) -> Result<(), FormatError> {
         let count = self.number()?;
         for _ in 0..count {
@@ -147,7 +147,7 @@ impl<'a> Reader<'a> {
         Ok(())
     }
 
-    /// What comes with its size in front of it, which is in a part of its own. What lacks where it goes on past the end is said of the
+    /// Content after its size, which is a part of the module of its own. Where it goes on past the end, the error is at the
     /// byte that `cut` names.
     pub(crate) fn sized(
         &mut self,

@@ -15,7 +15,7 @@ const CODE: u8 = 10;
 
 const LAST: u8 = 11;
 
-/// The first place at which bytes stop being a module, and what is wrong there; nothing where no such place is found.
+/// The first position at which bytes stop being a module, and what is wrong there; nothing where no such position is found.
 pub fn find_format_error(bytes: &[u8]) -> Option<FormatError> {
     read_module(&mut Reader::new(bytes)).err()
 }
@@ -42,7 +42,7 @@ fn read_module(reader: &mut Reader<'_>) -> Result<(), FormatError> {
 /// The sections that were read.
 #[derive(Drop)]
 struct Sections {
-    /// The number of the last one that isn't custom, or that of custom ones where there is none.
+    /// The id of the last section that isn't custom, or that of custom ones where there is none.
     last: u8,
     /// How many functions of the module's own there are.
     functions: u32,
@@ -82,7 +82,7 @@ impl Sections {
         self.read_content(&mut reader.sized(place, cut)?, section)
     }
 
-    /// What a section has.
+    /// The content of a section.
     fn read_content(&mut self, reader: &mut Reader<'_>, section: u8) -> Result<(), FormatError> {
         match section {
             CUSTOM => return reader.name(),

@@ -1,11 +1,11 @@
--- What is written behind what, by the grammar of formats.
+-- What is written after what, by the grammar of formats.
 use Rattle.std.proofs.Common.{◌≡◌, ℕ, List, [], ◌∷◌, ◌++◌, length, map, Result, Ok, OnOk, refl, sym, ap, subst, ◌∙◌, append_assoc, inl}
 use Rattle.std.proofs.lemmas.List.{append-nil, length-map}
 use Rattle.std.proofs.lemmas.Result.{on_ok_weaker}
 use Rattle.std.specs.Global.{Vec}
 use Rattle.std.specs.List.{FoldsTo}
 use denote.Ref.{Bor, MutBor}
-use Rattle.wa_syntax.specs.declared.no_memory.NoMemory.{NoMemory}
+use Rattle.failure.specs.declared.no_memory.NoMemory.{NoMemory}
 use Rattle.wa_syntax.specs.Leb128.{Appends}
 use Rattle.wa_syntax.specs.Formats.{Format, ◌then◌, exactly, each, vec, byte, u32}
 use Rattle.wa_encode.proofs.Orders.{of_parts, unsigned_is}
@@ -43,7 +43,7 @@ Adds-byte b old new is = Adds-exactly (b ∷ []) old new is
 pub Adds-nothing : (old : List ℕ) → Adds (exactly []) old old
 Adds-nothing old = Adds-exactly [] old old (sym (append-nil old))
 
--- the one and behind it the other
+-- the one, and after it the other
 pub Adds-then : {A B : Format} {old middle new : List ℕ} → Adds A old middle → Adds B middle new → Adds (A then B) old new
 Adds-then {A} {B} {old} {middle} {new} a b = record {
   bytes = a.bytes ++ b.bytes;
@@ -54,7 +54,7 @@ Adds-then {A} {B} {old} {middle} {new} a b = record {
   is = b.is ∙ ap (λ (list : List ℕ). list ++ b.bytes) a.is ∙ append_assoc old a.bytes b.bytes;
 }
 
--- a third one behind two
+-- a third one after two
 pub Adds-following : {A B C : Format} {old middle new : List ℕ} → Adds (A then B) old middle → Adds C middle new → Adds (A then B then C) old new
 Adds-following {A} {B} {C} {old} {middle} {new} ab c =
     Adds-as {A = (A then B) then C} (A then B then C)
@@ -74,7 +74,7 @@ Adds-u32 n old new h = record {
   is = h.2;
 }
 
--- values one behind another, each by a step
+-- values one after another, each by a step
 pub Adds-each : {V : Type 0} (B : V → Format) (Step : List ℕ → V → List ℕ → Type 0) (vs : List V) (old new : List ℕ) → ((before : List ℕ) (v : V) (after : List ℕ) → Step before v after → Adds (B v) before after) → FoldsTo Step old vs new → Adds (each B vs) old new
 Adds-each B Step [] old new step h = subst (λ (end : List ℕ). Adds (exactly []) old end) h (Adds-nothing old)
 Adds-each B Step (v ∷ vs) old new step h = Adds-then (step old v h.0 h.1) (Adds-each B Step vs h.0 new step h.2)

@@ -22,12 +22,12 @@ longer_last runs open_ run last joined =
     ∙ ap (λ (front : List ValTy). front ++ replicate run.count run.ty) (sym (types_of_runs-push runs open_))
     ∙ ap (λ (more : List ValTy). types_of_runs (runs ++ open_ ∷ []) ++ more) (sym (append-nil (replicate run.count run.ty)))
 
--- one more run behind
+-- one more run at the end
 pub one_more : (runs : List LocalRun) (run : LocalRun) → types_of_runs (runs ++ run ∷ []) ≡ types_of_runs runs ++ types_of_runs (run ∷ [])
 one_more runs run =
     types_of_runs-push runs run ∙ ap (λ (more : List ValTy). types_of_runs runs ++ more) (sym (append-nil (replicate run.count run.ty)))
 
--- an empty run behind
+-- an empty run at the end
 pub none_more : (runs : List LocalRun) (run : LocalRun) → run.count ≡ 0 → types_of_runs (runs ++ run ∷ []) ≡ types_of_runs runs
 none_more runs run empty =
     types_of_runs-push runs run ∙ ap (λ (many : ℕ). types_of_runs runs ++ replicate many run.ty) empty ∙ append-nil (types_of_runs runs)

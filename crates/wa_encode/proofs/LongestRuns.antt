@@ -1,4 +1,4 @@
--- Locals in the longest runs: no runs that stand for the same locals have fewer bytes.
+-- Locals in the longest runs: no runs that denote the same locals have fewer bytes.
 use Rattle.std.proofs.Common.{◌≡◌, ◌≢◌, ℕ, zero, suc, ◌+◌, ◌-◌, ◌^◌, ◌<◌, ◌≤◌, List, [], ◌∷◌, ◌++◌, length, replicate, refl, sym, ap, subst, ◌∙◌, inl, inr, ◌⊎◌, arith}
 use Rattle.std.specs.Prelude.{⊤}
 use Rattle.std.proofs.lemmas.Bool.{cases_lt}
@@ -71,7 +71,7 @@ none : (n : ℕ) (t : ValTy) (xs : List ValTy) → 0 < n → [] ≡ replicate n 
 none zero t xs some same = omega arith
 none (suc n) t xs some same = cc
 
--- behind a run of a type, another type begins
+-- after a run of a type, another type begins
 no_more : (first : LocalRun) (runs : List LocalRun) (n : ℕ) (xs : List ValTy) → AreOfTwo (first ∷ runs) → 0 < n → types_of_runs runs ≡ replicate n first.ty ++ xs → ⊥
 no_more first [] n xs h some same = none n first.ty xs some same
 no_more first (second ∷ runs) n xs h some same =
@@ -85,7 +85,7 @@ record Few (runs : List LocalRun) (most : ℕ) : Type 0 where
   pub spelled : each run runs bytes
   pub few : length bytes ≤ most
 
--- the same run at the front of both
+-- the same run at the beginning of both
 same_run : (first other : LocalRun) (runs : List LocalRun) (front : List ℕ) (most : ℕ) → first.count ≡ other.count → first.ty ≡ other.ty → run first front → Few runs most → Few (other ∷ runs) (length front + most)
 same_run first other runs front most counts types spelled h =
     let typed : (u32 first.count then valtype other.ty) front = subst (λ (t : ValTy). (u32 first.count then valtype t) front) types spelled in
@@ -100,7 +100,7 @@ one_byte : (t : ValTy) (bytes : List ℕ) → valtype t bytes → length bytes �
 one_byte I32 bytes h = ap length h
 one_byte I64 bytes h = ap length h
 
--- a run whose front is spelled, and its rest in front of the others
+-- a run whose first part is spelled, and its rest before the others
 joined_run : (first other : LocalRun) (runs : List LocalRun) (front : List ℕ) (most : ℕ) → first.count < other.count → other.count < 2 ^ 32 → run first front → Few (record { count = other.count - first.count; ty = other.ty } ∷ runs) most → Few (other ∷ runs) (length front + most - 1)
 joined_run first other runs front most less fits spelled h =
     let following = h.spelled.3 in
@@ -220,7 +220,7 @@ AreLongest-last (first ∷ []) last longer types more h =
 AreLongest-last (first ∷ second ∷ runs) last longer types more h =
     (h.0, AreLongest-last (second ∷ runs) last longer types more h.1)
 
--- a run behind the last one
+-- a run after the last one
 AreLongest-push : (runs : List LocalRun) (last run : LocalRun) → AreApart last run → AreLongest (runs ++ last ∷ []) → AreLongest ((runs ++ last ∷ []) ++ run ∷ [])
 AreLongest-push [] last run apart h = (apart, apart.1)
 AreLongest-push (first ∷ []) last run apart h = (h.0, (apart, apart.1))

@@ -49,7 +49,7 @@ pub record Within (bits n most : ℕ) : Type 0 where
   pub spelled : IsUnsigned bits bytes n
   pub few : length bytes ≤ most
 
--- a low byte in front of the bits above
+-- a low byte before the bits above
 more_bytes : (bits n most all : ℕ) → 7 < bits → most + 1 ≤ all → Within (bits - 7) (n / 128) most → Within bits n all
 more_bytes bits n most all more one high =
     let whole : 128 * (n / 128) + (n % 128 + 128 - 128) ≡ n = omega arith in

@@ -5,7 +5,7 @@ use Rattle.std.proofs.lemmas.Result.{on_ok_weaker}
 use Rattle.std.specs.Global.{Vec}
 use Rattle.std.specs.Str.{IsUtf8}
 use denote.Ref.{Bor, MutBor}
-use Rattle.wa_syntax.specs.declared.no_memory.NoMemory.{NoMemory}
+use Rattle.failure.specs.declared.no_memory.NoMemory.{NoMemory}
 use Rattle.wa_syntax.specs.declared.module.Module.{Module}
 use Rattle.wa_syntax.specs.declared.module.ValTy.{ValTy}
 use Rattle.wa_syntax.specs.declared.instr.Instr.{Instr, out-Instr}
@@ -51,7 +51,7 @@ Adds-bytes_of given text old new same h =
 pub Adds-name : (text old new : List ℕ) → Appends IsCounted old new text → Adds (name text) old new
 Adds-name text old new h = Adds-given (IsUtf8 text) (Adds-bytes text old new h)
 
--- what was written elsewhere, behind its length
+-- what was written elsewhere, after its length
 pub Adds-sized : (B : Format) (content old new : List ℕ) → Adds B [] content → Appends IsCounted old new content → Adds (sized B) old new
 Adds-sized B content old new written h = record {
   bytes = h.0;

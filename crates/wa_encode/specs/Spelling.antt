@@ -1,4 +1,4 @@
--- How the parts of a module are written (chapter 5): which of their spellings.
+-- Which spelling of a module's parts is written (chapter 5): the shortest.
 use Rattle.std.specs.Prelude.{◌≡◌, ◌≢◌, ℕ, ◌+◌, ◌^◌, ◌<◌, ◌≤◌, ◌⊎◌, List, [], ◌∷◌, ◌++◌, length, map, Result, Ok, ⊤}
 use Rattle.std.specs.Global.{Vec}
 use Rattle.std.specs.List.{FoldsTo}
@@ -6,16 +6,16 @@ use denote.Ref.{Bor, MutBor}
 use Rattle.wa_syntax.specs.declared.instr.Instr.{Instr}
 use Rattle.wa_syntax.specs.declared.locals.LocalRun.{LocalRun}
 use Rattle.wa_syntax.specs.declared.module.Module.{Module}
-use Rattle.wa_syntax.specs.declared.no_memory.NoMemory.{NoMemory}
+use Rattle.failure.specs.declared.no_memory.NoMemory.{NoMemory}
 use Rattle.wa_syntax.specs.Leb128.{IsUnsigned, IsShortest, Appends}
 use Rattle.wa_syntax.specs.Formats.{Format, ◌then◌, byte, u32}
 use Rattle.wa_syntax.specs.Binary.{functype, tabletype, memtype, customs, vecsec, import, global, export, startsec, elem, code, segment}
 
--- the old list is the front of the new one
+-- the old list is a prefix of the new one
 abbrev pub Extends : List ℕ → List ℕ → Type 0
 Extends old new = (more : List ℕ) × (new ≡ old ++ more)
 
--- if any bytes are of the format, these are, and any others that are of it are more
+-- if any bytes are of the format, these are, and any others that are of it are longer
 abbrev pub IsLeast : Format → List ℕ → Type 0
 IsLeast B bytes = (other : List ℕ) → B other → B bytes × ((other ≡ bytes) ⊎ (length bytes < length other))
 
@@ -29,7 +29,7 @@ pub record Adds (B : Format) (old new : List ℕ) : Type 0 where
 abbrev pub IsNumber : List ℕ → ℕ → Type 0
 IsNumber = IsShortest (IsUnsigned 32)
 
--- bytes behind their number (5.2.1)
+-- bytes after their count (5.2.1)
 abbrev pub IsCounted : List ℕ → List ℕ → Type 0
 IsCounted bytes content = (count : List ℕ) × IsNumber count (length content) × (bytes ≡ count ++ content)
 
@@ -52,13 +52,13 @@ pub record Leaves {V : Type 0} (post : MutBor (Vec ℕ) → Bor V → Result (Un
 abbrev pub AddsVector : {V : Type 0} → (List ℕ → V → List ℕ → Type 0) → List ℕ → List ℕ → List V → Type 0
 AddsVector Step old new vs = (begun : List ℕ) × Appends IsNumber old begun (length vs) × FoldsTo Step begun vs new
 
--- the section of a vector, which is left out where the vector is empty (5.5.2)
+-- the section of a vector, which is omitted where the vector is empty (5.5.2)
 abbrev pub AddsVectorSection : {V : Type 0} → (List ℕ → V → List ℕ → Type 0) → ℕ → List ℕ → List ℕ → List V → Type 0
 AddsVectorSection Step id old new vs =
     ((vs ≡ []) × (new ≡ old))
     ⊎ ((content : List ℕ) × (0 < length vs) × AddsVector Step [] content vs × Appends (IsSection id) old new content)
 
--- two runs that are not empty and that no run stands for: of two types, or too long together
+-- two runs that are not empty and that no run denotes: of two types, or too long together
 abbrev pub AreApart : LocalRun → LocalRun → Type 0
 AreApart first second =
     (0 < first.count) × (0 < second.count) × ((first.ty ≢ second.ty) ⊎ (2 ^ 32 ≤ first.count + second.count))
@@ -69,11 +69,11 @@ AreLongest [] = ⊤
 AreLongest (last ∷ []) = 0 < last.count
 AreLongest (first ∷ second ∷ runs) = AreApart first second × AreLongest (second ∷ runs)
 
--- the runs behind which one more stands, which may be empty where it is the only one
+-- these runs and one more at their end, which may be empty where it is the only one
 abbrev pub AreLongestTo : List LocalRun → LocalRun → Type 0
 AreLongestTo runs last = ((runs ≡ []) × (last.count ≡ 0)) ⊎ AreLongest (runs ++ last ∷ [])
 
--- of two runs one, where the other is empty, or a run of both
+-- two runs as one: the one, where the other is empty, or a run of both
 abbrev pub IsJoined : LocalRun → LocalRun → LocalRun → Type 0
 IsJoined first second run =
     ((first.count ≡ 0) × (run ≡ second))
@@ -85,7 +85,7 @@ abbrev pub else_end : (List Instr → Format) → List Instr → Format
 else_end Body no_branch bytes =
     ((no_branch ≡ []) × byte 0x0b bytes) ⊎ (byte 0x05 then Body no_branch then byte 0x0b) bytes
 
--- the sections of a module, with others that mean nothing anywhere between them (5.5.15)
+-- the sections of a module, with custom ones anywhere between them (5.5.15)
 abbrev pub sections : Module → Format
 sections m =
     customs then vecsec 1 functype m.types

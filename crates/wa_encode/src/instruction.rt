@@ -98,7 +98,7 @@ fn begin(out: &mut Vec<u8>, opcode: u8, ty: Option<ValTy>) -> Result<(), NoMemor
     block_type(out, ty)
 }
 
-/// The branch after `else` (5.4.1), which is left out where it is empty, and the `end` of the `if`.
+/// The branch after `else` (5.4.1), which is omitted where it is empty, and the `end` of the `if`.
 #[cycle(instructions)]
 fn else_branch(out: &mut Vec<u8>, otherwise: &[Instr]) -> Result<(), NoMemory>
     ensures { OnOk result ((levels : _) → Adds (else_end (each (binary.instr levels)) otherwise.now) out.old.items out.new.items) }
@@ -110,8 +110,8 @@ fn else_branch(out: &mut Vec<u8>, otherwise: &[Instr]) -> Result<(), NoMemory>
     expression(out, otherwise)
 }
 
-/// An instruction that is its opcode alone (5.4.1, 5.4.2, 5.4.5). Behind those of the size of the memory stands a byte 0,
-/// the number of the memory in later versions of the standard (5.4.4).
+/// An instruction that is its opcode alone (5.4.1, 5.4.2, 5.4.5). After `memory.size` and `memory.grow` comes a byte 0,
+/// the index of the memory in later versions of the standard (5.4.4).
 fn plain(out: &mut Vec<u8>, opcode: u8) -> Result<(), NoMemory>
     ensures { OnOk result (Adds (binary.plain opcode) out.old.items out.new.items) }
 {
@@ -122,7 +122,7 @@ fn plain(out: &mut Vec<u8>, opcode: u8) -> Result<(), NoMemory>
     Ok(())
 }
 
-/// An instruction that is its opcode and a number: a label (5.4.1), a function, a local or a global (5.4.3).
+/// An instruction that is its opcode and an index: of a label (5.4.1), a function, a local or a global (5.4.3).
 fn indexed(out: &mut Vec<u8>, opcode: u8, index: u32) -> Result<(), NoMemory>
     ensures { OnOk result (Adds (byte opcode then u32 index) out.old.items out.new.items) }
 {
@@ -139,7 +139,7 @@ fn br_table(out: &mut Vec<u8>, labels: &[u32], default: u32) -> Result<(), NoMem
     number(out, &default)
 }
 
-/// `call_indirect` (5.4.1): the number of the type, and a byte 0, the number of the table in later versions of the standard.
+/// `call_indirect` (5.4.1): the index of the type, and a byte 0, the index of the table in later versions of the standard.
 fn call_indirect(out: &mut Vec<u8>, ty: u32) -> Result<(), NoMemory>
     ensures { OnOk result (Adds (byte 0x11 then u32 ty then byte 0x00) out.old.items out.new.items) }
 {

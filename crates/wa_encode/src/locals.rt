@@ -26,7 +26,7 @@ fn run(out: &mut Vec<u8>, run: &LocalRun) -> Result<(), NoMemory>
     value_type(out, &run.ty)
 }
 
-/// The same locals in runs that are as long as they can be: neighbours of one type are joined, and empty runs left out.
+/// The same locals in runs that are as long as they can be: neighbours of one type are joined, and empty runs omitted.
 #[tactic(auto, using(crate::proofs::Joining::joining, std::proofs::lemmas::Grind::common_steps))]
 fn longest_runs(alloc: Global, runs: &[LocalRun]) -> Result<Vec<LocalRun>, NoMemory>
     ensures same { IfOk result (λ longest. types_of_runs longest.items ≡ types_of_runs runs.now) }
@@ -47,7 +47,7 @@ fn longest_runs(alloc: Global, runs: &[LocalRun]) -> Result<Vec<LocalRun>, NoMem
     Ok(longest)
 }
 
-/// Adds a run behind the last one, which isn't in the list yet, and gives the one that is then the last.
+/// Adds a run after the last one, which isn't in the list yet, and gives the one that is then the last.
 #[tactic(auto, using(crate::proofs::Joining::joining))]
 fn with_run(
     longest: &mut Vec<LocalRun>,

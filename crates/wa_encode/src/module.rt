@@ -49,7 +49,7 @@ const DATA: u8 = 11;
 /// `NoMemory` comes where memory runs out, and where a count or a length doesn't fit 32 bits, that of the whole among them.
 pub fn encode(alloc: Global, m: &Module) -> Result<Vec<u8>, NoMemory>
     ensures begins { IfOk result (λ bytes. Extends PREAMBLE bytes.items) }
-    // If any bytes spell the module, these do, and any others that do are more.
+    // If any bytes spell the module, these do, and any others that do are longer.
     ensures shortest { IfOk result (λ bytes. IsLeast (λ spelling. binary.SpellsModule spelling m.now) bytes.items) }
 {
     let mut out = Vec::from_slice(alloc, &PREAMBLE)?;
@@ -118,7 +118,7 @@ fn import_kind(out: &mut Vec<u8>, kind: &ImportKind) -> Result<(), NoMemory>
     }
 }
 
-/// An entry of the function section (5.5.6): the number of a function's type.
+/// An entry of the function section (5.5.6): the index of a function's type.
 fn function(out: &mut Vec<u8>, func: &Func) -> Result<(), NoMemory>
     ensures { OnOk result (Adds (u32 func.now.ty) out.old.items out.new.items) }
 {

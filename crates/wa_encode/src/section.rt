@@ -16,7 +16,7 @@ pub fn section(out: &mut Vec<u8>, id: u8, content: &[u8]) -> Result<(), NoMemory
     bytes(out, content)
 }
 
-/// A section whose content is a vector. One without entries is left out.
+/// A section whose content is a vector. One without entries is omitted.
 pub fn vector_section<T, F>(
     alloc: Global,
     out: &mut Vec<u8>,

@@ -44,7 +44,7 @@ where
     Ok(())
 }
 
-/// Bytes behind their number: a vector of bytes (5.2.1), or a part whose size stands before it (5.5.2, 5.5.13).
+/// Bytes after their count: a vector of bytes (5.2.1), or a part with its size before it (5.5.2, 5.5.13).
 pub fn bytes(out: &mut Vec<u8>, content: &[u8]) -> Result<(), NoMemory>
     ensures { OnOk result (Appends IsCounted out.old.items out.new.items content.now) }
 {

@@ -1,4 +1,4 @@
-//! The open activations (section 4.2.10.2 of the WebAssembly Core Specification 1.0): their words, and where each caller goes on.
+//! The open activations (section 4.2.10.2 of the WebAssembly Core Specification 1.0): their words, and where each caller continues.
 
 ghost use Rattle.std.specs.Prelude.{◌≡◌, ◌==◌, ◌+◌, ◌-◌, ◌<◌, ◌≤◌, ◌^◌, ◌↔◌, ℕ, List, [], ◌∷◌, ◌++◌, drop, length};
 ghost use Rattle.std.specs.Prelude.{max, nat_le, replicate, reverse, slice_index, OnOk, IfErr, IsErrOf, vec_len};
@@ -17,7 +17,7 @@ use wa_stack::FrameStack;
 /// The most activations at a time.
 pub(crate) const DEPTH: usize = 40_000;
 
-/// Where a caller goes on: the place of its next instruction, and the height of its operands without the arguments.
+/// Where a caller continues: the index of its next instruction, and the height of its operands without the arguments.
 #[derive(Clone, Copy)]
 pub(crate) struct Caller {
     at: usize,
@@ -27,11 +27,11 @@ pub(crate) struct Caller {
 /// The open activations, and where the last one is.
 #[derive(Drop)]
 pub(crate) struct CallStack {
-    /// The place of the next instruction.
+    /// The index of the next instruction.
     pub at: usize,
     pub region: FrameStack,
     pub callers: Vec<Caller>,
-    /// The height of the operands. It is no neighbour of the place, since two that are copied as one wait for both to be written.
+    /// The height of the operands. It is not adjacent to the index, since two that are copied as one wait for both to be written.
     pub height: usize,
 }
 
@@ -46,7 +46,7 @@ fn top_len(region: &FrameStack) -> usize
     region.top().len()
 }
 
-/// Whether the top frame has so many words from a place on.
+/// Whether the top frame has so many words from an index on.
 #[inline(always)]
 fn has_words(region: &FrameStack, from: usize, count: u32) -> bool
     ensures { result ≡ nat_le (from + count) (length (top region.now)) }
@@ -85,7 +85,7 @@ fn close_frame(region: &mut FrameStack)
     region.leave();
 }
 
-/// The word of the top frame at a place.
+/// The word of the top frame at an index.
 #[inline]
 fn top_word(region: &FrameStack, at: usize) -> u64
     ensures { result ≡ slice_index (top region.now) at }
@@ -96,7 +96,7 @@ fn top_word(region: &FrameStack, at: usize) -> u64
     read(region.top(), at)
 }
 
-/// Sets the word of the top frame at a place, if there is one.
+/// Sets the word of the top frame at an index, if there is one.
 #[inline]
 fn set_top(region: &mut FrameStack, at: usize, word: u64)
     ensures set { region.new ≡ with_word region.old at word }
@@ -156,7 +156,7 @@ impl CallStack {
         Ok(())
     }
 
-    /// Closes the last activation and goes on in its caller.
+    /// Closes the last activation and continues in its caller.
     #[inline(always)]
     fn close(&mut self)
         ensures count { vec_len self.new.callers ≡ vec_len self.old.callers - 1 }
@@ -172,7 +172,7 @@ impl CallStack {
         self.height = caller.height;
     }
 
-    /// Closes the last activation and goes on in its caller, with the result as an operand.
+    /// Closes the last activation and continues in its caller, with the result as an operand.
     #[inline(always)]
     pub(crate) fn leave(&mut self, value: Option<u64>)
         ensures count { vec_len self.new.callers ≡ vec_len self.old.callers - 1 }
@@ -185,7 +185,7 @@ impl CallStack {
         self.give(word);
     }
 
-    /// Puts an operand on those of the last activation.
+    /// Pushes an operand in the last activation.
     #[inline]
     pub(crate) fn give(&mut self, word: u64)
         ensures callers { self.new.callers ≡ self.old.callers }
@@ -200,7 +200,7 @@ impl CallStack {
         self.height = self.height.wrapping_add(1);
     }
 
-    /// Takes the top operand of the last activation.
+    /// Pops the top operand of the last activation.
     #[inline]
     pub(crate) fn take(&mut self) -> u64
         ensures rest { self.new ≡ record self.old { height = self.new.height } }

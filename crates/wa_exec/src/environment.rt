@@ -14,7 +14,7 @@ use crate::link::HostCall;
 use host_io::{Outage, Sink, Source, Take};
 use wa_instr::low;
 
-/// Hands the output on.
+/// Flushes the output.
 fn flush_host<O: Sink>(host: &mut Host, out: &mut O) -> Result<(), Halt>
     ensures ok { OnOk result (Flushes (O.output out.old) (O.output out.new) host.old host.new) }
     ensures hands { HasFlushed result (O.output out.old) (O.output out.new) host.old host.new }
@@ -31,12 +31,12 @@ fn flush_host<O: Sink>(host: &mut Host, out: &mut O) -> Result<(), Halt>
     }
 }
 
-/// Whether the output is handed on behind this byte: where 4,096 bytes are held, and behind each line for a sink that wants lines.
+/// Whether the output is flushed after this byte: where 4,096 bytes are buffered, and after each line for a sink that wants lines.
 fn is_due<O: Sink>(byte: u8, host: &Host, out: &O) -> bool {
     host.is_full() || (byte == b'\n' && out.wants_lines())
 }
 
-/// `env.put`: holds the low 8 bits of the argument, and hands the output on where it is due.
+/// `env.put`: buffers the low 8 bits of the argument, and flushes the output where it is due.
 fn put<O: Sink>(word: u64, host: &mut Host, out: &mut O) -> Result<(), Halt>
     ensures ok { OnOk result (Flushes (O.output out.old) (O.output out.new) (host.old ++ word % 2 ^ 8 ∷ []) host.new) }
     ensures hands { HasFlushed result (O.output out.old) (O.output out.new) (host.old ++ word % 2 ^ 8 ∷ []) host.new }
@@ -56,7 +56,7 @@ fn put<O: Sink>(word: u64, host: &mut Host, out: &mut O) -> Result<(), Halt>
     }
 }
 
-/// `env.get`: the next byte of the input, or -1 at its end. The output is handed on before.
+/// `env.get`: the next byte of the input, or -1 at its end. The output is flushed first.
 fn get<I: Source, O: Sink>(host: &mut Host, input: &mut I, out: &mut O) -> Result<u64, Halt>
     ensures ok { IfOk result (λ word. Takes (sides (I.input input.old) (I.ended input.old) (O.output out.old))
         (sides (I.input input.new) (I.ended input.new) (O.output out.new)) word

@@ -33,8 +33,8 @@ pub enum Halt {
 /// Why a module can't be started.
 #[derive(Clone, Copy, Debug, PartialEq, Eq, Error)]
 pub enum StartFault {
-    /// The import of this number is none of `env.put`, `env.get` and `env.stop` with their types; or, where the number is
-    /// that of all imports, no function of the module's own without arguments and with no result or one `i32` is exported
+    /// The import of this index is none of `env.put`, `env.get` and `env.stop` with their types; or, where it is the
+    /// number of all imports, no function of the module's own without arguments and with no result or one `i32` is exported
     /// as `main`.
     #[error("import {0} can't be linked")]
     Unlinked(u32),

@@ -1,4 +1,4 @@
-//! The output of a module that is held and not handed on yet.
+//! The output of a module that is buffered and not flushed yet.
 
 ghost use Rattle.std.specs.Prelude.{◌≡◌, ◌≤◌, [], ◌∷◌, ◌++◌, IfOk, IsOk, OnOk, OnErr, IsErrOf};
 ghost use Rattle.host_io.specs.Faults.{Rose};
@@ -9,10 +9,10 @@ use std::alloc::Global;
 use std::marker::Model;
 use wa_syntax::NoMemory;
 
-/// How many bytes are held at most before they are handed on.
+/// How many bytes are buffered at most before they are flushed.
 pub(crate) const HELD: usize = 4096;
 
-/// The output that is held and not handed on yet. Contracts see its bytes.
+/// The output that is buffered and not flushed yet. Contracts see its bytes.
 #[derive(Debug, Drop)]
 pub struct Host {
     held: Vec<u8>,
@@ -27,7 +27,7 @@ impl Model for Host {
 }
 
 impl Host {
-    /// A host that holds nothing, with the memory for 4,096 bytes.
+    /// A host with an empty buffer, with the memory for 4,096 bytes.
     ///
     /// # Errors
     ///
@@ -39,11 +39,11 @@ impl Host {
         Ok(Host { held })
     }
 
-    /// Hands all that is held to the sink, in order, and then holds nothing.
+    /// Passes all buffered bytes to the sink, in order, and empties the buffer.
     ///
     /// # Errors
     ///
-    /// The sink's outage. It has then taken a front of what is held, and what is held stays.
+    /// The sink's outage. It has then taken a prefix of the buffered bytes, and these stay buffered.
     pub fn flush<O: Sink>(&mut self, out: &mut O) -> Result<(), Outage>
         ensures ok { OnOk result (self.new ≡ []) }
         ensures took { OnOk result (Took (O.output out.old) (O.output out.new) self.old) }
@@ -58,7 +58,7 @@ impl Host {
         Ok(())
     }
 
-    /// Holds one more byte.
+    /// Buffers one more byte.
     pub(crate) fn hold(&mut self, byte: u8) -> Result<(), NoMemory>
         ensures ok { OnOk result (self.new ≡ self.old ++ byte ∷ []) }
         ensures err { OnErr result (self.new ≡ self.old) }
@@ -67,7 +67,7 @@ impl Host {
         Ok(())
     }
 
-    /// Whether as many bytes are held as are handed on together.
+    /// Whether as many bytes are buffered as are flushed together.
     pub(crate) fn is_full(&self) -> bool {
         self.held.len() >= HELD
     }

@@ -1,4 +1,4 @@
-//! The law of calls one after another, and what a call gives to it, each as what a function ensures. No code runs these.
+//! The law of calls one after another, and what a call contributes to it, each as what a function ensures. No code runs these.
 
 ghost use Rattle.std.specs.Prelude.{◌≡◌, None};
 ghost use Rattle.wa_exec.specs.Law.{AreOneRun, Called, between};
@@ -17,7 +17,7 @@ pub fn are_one_run(program: &Module)
     ensures { AreOneRun program.now }
 {}
 
-/// A call of `step_until` on a machine that runs a module is one of those of which the law speaks, also after a halt.
+/// A call of `step_until` on a machine that runs a module is one of those that the law is about, also after a halt.
 pub fn called<I: Source, O: Sink>(
     machine: &mut Machine,
     fuel: u64,

@@ -30,7 +30,7 @@ pub(crate) enum ActivationCallee {
     Own(FlatFunction),
 }
 
-/// A module's code, and what its functions are, by their numbers.
+/// A module's code, and what its functions are, by their indices.
 #[derive(Drop)]
 pub(crate) struct Linked {
     pub code: Code,
@@ -49,7 +49,7 @@ impl Linked {
         Ok(Linked { code, callees })
     }
 
-    /// How many functions begin in front of a place of the code, those of the host among them.
+    /// How many functions begin before an index of the code, those of the host among them.
     pub(crate) fn begun_before(&self, at: usize) -> usize
         ensures { result ≡ count_by (begins_before at) self.now.callees.items }
     {
@@ -59,7 +59,7 @@ impl Linked {
             .count()
     }
 
-    /// Whether a function is of the type with this number, by content.
+    /// Whether a function is of the type with this index, by content.
     pub(crate) fn is_of_type(&self, func: u32, ty: u32) -> bool
         ensures { result ≡ are_same (slice_get self.now.code.func_types.items func) (slice_get self.now.code.first_types.items ty) }
     {
@@ -73,7 +73,7 @@ impl Linked {
     }
 }
 
-/// Whether a function begins in front of a place of the code, as each one of the host does, which has none of it.
+/// Whether a function begins before an index of the code, as each one of the host does, which has no instructions there.
 fn begins_before(callee: &ActivationCallee, at: usize) -> bool
     ensures { result ≡ begins_before at callee.now }
 {
@@ -164,7 +164,7 @@ pub(crate) fn imported(alloc: Global, m: &Module) -> Result<Vec<ActivationCallee
     Ok(callees)
 }
 
-/// The type of a function of the module's own, by the function's number.
+/// The type of a function of the module's own, by the function's index.
 fn own_type(m: &Module, func: u32) -> Option<&FuncTy>
     ensures own { IfSome result (λ ty. length m.now.imports ≤ func) }
     ensures ty { IfSome result (λ ty. type_of m.now func ≡ Some ty.now) }
@@ -182,7 +182,7 @@ fn is_type_of_main(ty: &FuncTy) -> bool
     is_type(ty, &[], &[]) || is_type(ty, &[], &[ValTy::I32])
 }
 
-/// Whether the function of this number can be `main`: it is one of the module's own, without arguments and with no result or
+/// Whether the function of this index can be `main`: it is one of the module's own, without arguments and with no result or
 /// one i32.
 fn is_main(m: &Module, func: u32) -> bool
     ensures { result ≡ is_main m.now (Some func) }
@@ -210,7 +210,7 @@ fn exported_main(exports: &[Export]) -> Option<u32>
     None
 }
 
-/// The number of `main`: a function of the module's own that is exported under this name, without arguments and with no
+/// The index of `main`: a function of the module's own that is exported under this name, without arguments and with no
 /// result or one i32.
 ///
 /// # Errors

@@ -30,7 +30,7 @@ use wa_flatten::{Code, ModuleInstance, segments_fit};
 use wa_syntax::{Module, NoMemory};
 use wa_valid::Valid;
 
-/// A module that is run. Contracts see how many steps it has made and whether it has halted.
+/// A machine that runs a module. Contracts see how many steps it has made and whether it has halted.
 #[derive(Drop)]
 pub struct Machine {
     linked: Linked,
@@ -83,7 +83,7 @@ impl Machine {
         self.steps
     }
 
-    /// The function whose instruction has ended the run, by a trap or by a call that is too deep: its number among all functions of the
+    /// The function whose instruction has ended the run, by a trap or by a call that is too deep: its index among all functions of the
     /// module, the imported ones first. None where the run hasn't ended so.
     pub fn halted_in(&self) -> Option<usize>
         ensures { result ≡ halted_in self.now }
@@ -98,11 +98,11 @@ impl Machine {
         }
     }
 
-    /// Runs until the steps have reached the fuel or the run halts. A machine that has halted answers its halt again, and
-    /// nothing is read or handed on; nor is it where the fuel is below the steps.
+    /// Runs until the steps have reached the fuel or the run halts. A machine that has halted gives its halt again, and
+    /// nothing is read or flushed; nor is it where the fuel is below the steps.
     ///
-    /// Each instruction is a step, also one that halts; `else` and `end` are none. A `loop` is one each time it is entered
-    /// from above, and a branch to it goes to the first instruction in it. Output is handed on where 4,096 bytes are held,
+    /// Each instruction is a step, also one that halts; `else` and `end` are none. A `loop` is one each time control falls into
+    /// it, and a branch to it goes to the first instruction in it. Output is flushed where 4,096 bytes are buffered,
     /// and before each read of input.
     pub fn step_until<I: Source, O: Sink>(
         &mut self,
@@ -132,7 +132,7 @@ impl Machine {
         ensures source { I.faults input.old ≤ I.faults input.new }
         ensures sink { O.faults out.old ≤ O.faults out.new }
 
-        // What out has is behind what it had.
+        // What out has is after what it had.
         ensures output { Grew (O.output out.old) (O.output out.new) }
     {
         if let Some(halt) = self.halt {
@@ -156,7 +156,7 @@ impl Machine {
     }
 }
 
-/// Tries whether a machine can be started, without making one.
+/// Checks whether a machine can be started, without making one.
 ///
 /// # Errors
 ///
@@ -176,7 +176,7 @@ pub fn check_start(alloc: Global, v: &Valid) -> Result<(), StartFault>
     }
 }
 
-/// The halt that stays: each but `Spent`.
+/// The halt that the machine keeps: each but `Spent`.
 fn kept(halt: Halt) -> Option<Halt>
     ensures { result ≡ halted halt }
 {
@@ -186,7 +186,7 @@ fn kept(halt: Halt) -> Option<Halt>
     }
 }
 
-/// The functions that are to be run: `main`, and above it the start function.
+/// The functions that are to be run, the next one last: `main`, and after it the start function.
 fn waiting(alloc: Global, m: &Module, main: u32) -> Result<Vec<u32>, NoMemory>
     ensures { IfOk result (λ waiting. waiting.items ≡ main ∷ option_to_list m.now.start) }
 {
@@ -198,7 +198,7 @@ fn waiting(alloc: Global, m: &Module, main: u32) -> Result<Vec<u32>, NoMemory>
     Ok(waiting)
 }
 
-/// What a run begins with.
+/// The state at the beginning of a run.
 ///
 /// # Errors
 ///

@@ -22,7 +22,7 @@ use wa_syntax::TrapKind;
 #[derive(Drop)]
 pub(crate) struct State {
     pub calls: CallStack,
-    /// The functions that are to be run one after another, the next one last: `main`, and above it the start function.
+    /// The functions that are to be run one after another, the next one last: `main`, and after it the start function.
     pub waiting: Vec<u32>,
     /// What the last of them returned.
     pub value: Option<u64>,
@@ -73,7 +73,7 @@ impl State {
         stretch
     }
 
-    /// The function that an indirect call through the table calls, whose number is the top operand.
+    /// The function that an indirect call through the table calls. Its index in the table is the top operand.
     #[inline(always)]
     pub(crate) fn callee(&mut self, linked: &Linked, ty: u32) -> Result<u32, TrapKind>
         ensures rest { self.new ≡ record self.old { calls = self.new.calls } }

@@ -1,5 +1,5 @@
-//! Instantiation (section 4.5.4 of the WebAssembly Core Specification 1.0): the globals, the table and the memory as a module
-//! begins with them.
+//! Instantiation (section 4.5.4 of the WebAssembly Core Specification 1.0): what the globals, the table and the memory of a
+//! module begin with.
 
 ghost use Rattle.std.specs.Prelude.{◌≡◌, ◌+◌, ◌≤◌, IfOk, OnOk, Err, Some, [], length, map};
 ghost use Rattle.wa_flatten.specs.declared.instance.InstanceFault.{InstanceFault};
@@ -122,7 +122,7 @@ fn place_behind(from: usize, i: usize) -> Result<u32, NoMemory>
     u32::try_from(place).map_err(|_| NoMemory)
 }
 
-/// Puts functions into the table, from a place on.
+/// Puts functions into the table, from an index on.
 fn put_all(table: &mut TableInstance, from: usize, funcs: &[u32]) -> Result<(), NoMemory>
     requires { from + length funcs.now ≤ length table.old }
     ensures put { OnOk result (table.new ≡ overwritten table.old from (map (λ func. Some func) funcs.now)) }
@@ -134,7 +134,7 @@ fn put_all(table: &mut TableInstance, from: usize, funcs: &[u32]) -> Result<(), 
     Ok(())
 }
 
-/// How many places the segments fill, those that are filled twice counted twice.
+/// How many elements the segments fill, those that are filled twice counted twice.
 fn filled(elems: &[ElemSegment]) -> usize {
     let mut filled: usize = 0;
     for elem in elems {
@@ -156,7 +156,7 @@ fn table(alloc: Global, m: &Module) -> Result<TableInstance, NoMemory>
     Ok(table)
 }
 
-/// Puts bytes into the memory, from a place on.
+/// Puts bytes into the memory, from an address on.
 fn put_bytes(memory: &mut [u8], from: usize, bytes: &[u8])
     requires { from + length bytes.now ≤ length memory.old }
     ensures { memory.new ≡ overwritten memory.old from bytes.now }

@@ -1,5 +1,5 @@
 //! A valid module of WebAssembly Core 1.0, in its integer part, in the form that a machine runs: the instructions of all its
-//! functions in one row, in which a branch names the place that it goes on at, and what its globals, table and memory begin
+//! functions in one array, in which a branch names the index at which it continues, and what its globals, table and memory begin
 //! with.
 #![tactic(auto)]
 

@@ -19,7 +19,7 @@ pub(crate) fn value(init: Init) -> u64
     }
 }
 
-/// Where a segment begins: its offset may read a global of the module's own, and is 0 where there is none of this number.
+/// Where a segment begins: its offset may read a global of the module's own, and is 0 where there is none of this index.
 pub(crate) fn offset(m: &Module, init: Init) -> usize
     ensures { result ≡ offset_of m.now init }
 {
@@ -51,7 +51,7 @@ pub fn segments_fit(m: &Module) -> bool
     elems_fit(m) && data_fits(m)
 }
 
-/// Whether so many entries fit into a row of this length, from a place on.
+/// Whether so many entries fit into an array of this length, from an index on.
 fn fits(from: usize, count: usize, len: usize) -> bool
     ensures { IsTrue result ↔ (from + count ≤ len) }
 {

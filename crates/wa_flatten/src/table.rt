@@ -1,4 +1,4 @@
-//! The table of functions. Its size is free of cost: places that no segment fills take no memory past the first ones.
+//! The table of functions. Its size alone costs nothing: elements that no segment fills take no memory past the first ones.
 
 ghost use Rattle.std.specs.Prelude.{◌≡◌, ◌<◌, IfOk, OnOk, None, Some, length, replicate, slice_get, slice_set};
 
@@ -6,16 +6,16 @@ use indexmap::IndexMap;
 use std::alloc::{AllocError, AllocFailed, Global};
 use std::marker::Model;
 
-/// The places of a table that are held as a list whatever its segments fill.
+/// The elements of a table that are kept as a list, whatever its segments fill.
 const LISTED: usize = 65_536;
 
-/// A table: at each place the number of a function, or none. Contracts see the list of its places.
+/// A table: each element is the index of a function, or none. Contracts see the list of its elements.
 #[derive(Drop)]
 pub struct TableInstance {
     size: usize,
-    /// The first places.
+    /// The first elements.
     listed: Vec<Option<u32>>,
-    /// The functions at the places behind them.
+    /// The functions of the elements after them, by the index of the element.
     others: IndexMap<u32, u32>,
 }
 
@@ -31,7 +31,7 @@ impl Model for TableInstance {
 }
 
 impl TableInstance {
-    /// A table of so many places without a function, for segments that fill so many of them.
+    /// A table of so many elements without a function, for segments that fill so many of them.
     pub(crate) fn new(
         alloc: Global,
         size: usize,
@@ -48,7 +48,7 @@ impl TableInstance {
         })
     }
 
-    /// Puts a function at a place.
+    /// Puts a function at an index.
     pub(crate) fn put(&mut self, at: u32, func: u32) -> Result<(), AllocFailed<(u32, u32)>>
         requires { at < length self.old }
         ensures put { OnOk result (self.new ≡ slice_set self.old at (Some func)) }
@@ -63,7 +63,7 @@ impl TableInstance {
         Ok(())
     }
 
-    /// What is at a place: a function or none. `None` past the end of the table.
+    /// The element at an index: a function or none. `None` past the end of the table.
     pub fn get(&self, at: u32) -> Option<Option<u32>>
         ensures { result ≡ slice_get self.now at }
     {

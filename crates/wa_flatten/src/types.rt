@@ -12,7 +12,7 @@ use wa_syntax::{FuncTy, NoMemory, ValTy};
 /// The end of the parameters, which no type of values has as its byte.
 const END: u8 = 2;
 
-/// The byte that stands for a type of values.
+/// The byte that denotes a type of values.
 fn letter_of(ty: ValTy) -> u8
     ensures { result ≡ letter ty }
 {
@@ -43,7 +43,7 @@ fn content_of(alloc: Global, ty: &FuncTy) -> Result<Vec<u8>, AllocError>
     Ok(bytes)
 }
 
-/// The number under which a content is known, which is this one where it is new.
+/// The index under which a content is known, which is this one where it is new.
 fn first_same(
     known: &mut IndexMap<Vec<u8>, u32>,
     bytes: Vec<u8>,
@@ -59,7 +59,7 @@ fn first_same(
     Ok(number)
 }
 
-/// For each type the first number of one with the same content.
+/// For each type the first index of one with the same content.
 pub(crate) fn first_types(alloc: Global, types: &[FuncTy]) -> Result<Vec<u32>, NoMemory>
     ensures { IfOk result (λ first. map Some first.items ≡ map (first_like types.now) types.now) }
 {

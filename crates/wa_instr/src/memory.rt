@@ -11,7 +11,7 @@ ghost use Rattle.wa_syntax.specs.Numeric.{extend_s};
 use crate::words::{low, read, write};
 use wa_syntax::{TrapKind, opcode};
 
-/// Where an access begins.
+/// The address at which an access begins.
 #[inline(always)]
 fn place(base: u64, offset: u32) -> usize
     ensures at { result ≡ base % 2 ^ 32 + offset }
@@ -20,7 +20,7 @@ fn place(base: u64, offset: u32) -> usize
     low(base) as usize + offset as usize
 }
 
-// ---- the number at a place
+// ---- the number at an address
 
 #[inline(always)]
 fn byte_at(bytes: &[u8], at: usize) -> Result<u8, TrapKind>
@@ -143,7 +143,7 @@ fn loaded(op: u8, bytes: &[u8], at: usize) -> Result<u64, TrapKind>
 ///
 /// # Errors
 ///
-/// `Memory` where a byte past the end would be read. The operands are then of no use.
+/// `Memory` where a byte past the end would be read. The operands are then unspecified.
 #[inline(always)]
 pub fn load(
     op: u8,
@@ -243,7 +243,7 @@ fn set_eight_bytes(bytes: &mut [u8], at: usize, word: u64) -> Result<(), TrapKin
     Ok(())
 }
 
-/// Does the store of this opcode to a place.
+/// Does the store of this opcode at an address.
 #[inline(always)]
 fn set(op: u8, bytes: &mut [u8], at: usize, word: u64) -> Result<(), TrapKind>
     requires { at < 2 ^ 63 }

@@ -23,7 +23,7 @@ fn i32_operator(op: u8, a: u64, b: u64) -> Result<u64, TrapKind>
 ///
 /// # Errors
 ///
-/// The trap of the operator. The operands are then of no use.
+/// The trap of the operator. The operands are then unspecified.
 #[inline(always)]
 pub fn unary32(op: u8, words: &mut [u64], height: usize) -> Result<(), TrapKind>
     ensures { (a : ℕ) (stack : List ℕ) → Holds words.old height (a ∷ stack) → IsI32Operator op
@@ -39,13 +39,13 @@ pub fn unary32(op: u8, words: &mut [u64], height: usize) -> Result<(), TrapKind>
 ///
 /// # Errors
 ///
-/// The trap of the operator. The operands are then of no use.
+/// The trap of the operator. The operands are then unspecified.
 #[inline(always)]
 pub fn binary32(op: u8, words: &mut [u64], height: usize) -> Result<(), TrapKind>
     ensures { (b a : ℕ) (stack : List ℕ) → Holds words.old height (b ∷ a ∷ stack) → IsI32Operator op
         → Puts (i32_result op (a % 2 ^ 32) (b % 2 ^ 32)) result words.new (height - 1) stack }
 {
-    // Once it is known that there are two operands, none of their places is compared with the end of the words.
+    // Once it is known that there are two operands, none of their indices is compared with the end of the words.
     if height < 2 || height > words.len() {
         return Ok(());
     }
@@ -59,7 +59,7 @@ pub fn binary32(op: u8, words: &mut [u64], height: usize) -> Result<(), TrapKind
 ///
 /// # Errors
 ///
-/// The trap of the operator. The operands are then of no use.
+/// The trap of the operator. The operands are then unspecified.
 #[inline(always)]
 pub fn unary64(op: u8, words: &mut [u64], height: usize) -> Result<(), TrapKind>
     ensures { (a : ℕ) (stack : List ℕ) → Holds words.old height (a ∷ stack) → IsI64Operator op
@@ -75,13 +75,13 @@ pub fn unary64(op: u8, words: &mut [u64], height: usize) -> Result<(), TrapKind>
 ///
 /// # Errors
 ///
-/// The trap of the operator. The operands are then of no use.
+/// The trap of the operator. The operands are then unspecified.
 #[inline(always)]
 pub fn binary64(op: u8, words: &mut [u64], height: usize) -> Result<(), TrapKind>
     ensures { (b a : ℕ) (stack : List ℕ) → Holds words.old height (b ∷ a ∷ stack) → IsI64Operator op
         → Puts (i64_result op a b) result words.new (height - 1) stack }
 {
-    // Once it is known that there are two operands, none of their places is compared with the end of the words.
+    // Once it is known that there are two operands, none of their indices is compared with the end of the words.
     if height < 2 || height > words.len() {
         return Ok(());
     }

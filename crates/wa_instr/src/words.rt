@@ -1,10 +1,10 @@
-//! Words at a place of a row: locals, operands and globals. No validated module reaches past the end of one; a read there
+//! Words in an array: locals, operands and globals. No validated module reaches past the end of one; a read there
 //! gives 0, and a write does nothing.
 
 ghost use Rattle.std.specs.Prelude.{◌≡◌, ◌%◌, ◌^◌, ◌<◌, ℕ, List, ◌∷◌, slice_index, slice_set, length};
 ghost use Rattle.wa_instr.specs.Stack.{Holds};
 
-/// The word at a place, and 0 past the end.
+/// The word at an index, and 0 past the end.
 #[inline(always)]
 pub fn read(words: &[u64], at: usize) -> u64
     ensures { result ≡ slice_index words.now at }
@@ -15,7 +15,7 @@ pub fn read(words: &[u64], at: usize) -> u64
     }
 }
 
-/// Sets the word at a place, if there is one.
+/// Sets the word at an index, if there is one.
 #[inline(always)]
 pub fn write(words: &mut [u64], at: usize, word: u64)
     ensures { words.new ≡ slice_set words.old at word }

@@ -230,7 +230,7 @@ fn rotr(a: u32, b: u32) -> u32
 }
 
 /// What the operator of this opcode gives of the operands `a` and `b`. A test gives 0 or 1, and an operator of one operand
-/// ignores `b`. What is no operator's opcode stands for the last operator, as in `i32_result`, so that one table of jumps finds each.
+/// ignores `b`. What is no operator's opcode is taken as the last operator, as in `i32_result`, so that one jump table finds each.
 ///
 /// # Errors
 ///

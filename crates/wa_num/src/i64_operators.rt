@@ -257,7 +257,7 @@ fn extend_i32_u(a: u64) -> u64
 
 /// What the operator of this opcode gives of the operands `a` and `b`. A test gives 0 or 1, and an operator of one operand
 /// ignores `b`. `i32.wrap_i64` gives the lowest 32 bits of `a`, and `i64.extend_i32_s` and `i64.extend_i32_u` read these
-/// bits alone. What is no operator's opcode stands for the last one, as in `i64_result`, so that one table of jumps finds each.
+/// bits alone. What is no operator's opcode is taken as the last one, as in `i64_result`, so that one jump table finds each.
 ///
 /// # Errors
 ///

@@ -101,13 +101,13 @@ module _ (m : Module) (fuel steps : ℕ) (result : Answer) (answers : List Take)
   is-fault bytes (inl is) front = subst (λ (a : Answer). IsAnswered m answers bytes fuel a steps) (sym is) front
   is-fault bytes (inr is) front = subst (λ (a : Answer). IsAnswered m answers bytes fuel a steps) (sym is) front
 
-  -- all that is held is handed on, or a front of it
+  -- all that is buffered is flushed, or a prefix of it
   delivered-on : (given : Answer) → IsFlushed given result left mid.output there.output → IsAnswered m answers (delivered ++ left) fuel given steps → (left ≢ [] → (k : ℕ) → IsFront m answers (delivered ++ take k left) steps) → Goal
   delivered-on given (inl (is, all)) whole front =
       passed left all (subst (λ (a : Answer). IsAnswered m answers (delivered ++ left) fuel a steps) (sym is) whole)
   delivered-on given (inr (some, fault, (k, part))) whole front = passed (take k left) part (is-fault (delivered ++ take k left) fault (front some k))
 
-  -- nothing more is handed on
+  -- nothing more is flushed
   cut-off : (given : Answer) → (given ≡ answer.OutFault) ⊎ (given ≡ answer.NoMemory) → (result ≡ given) × (there.output ≡ mid.output) → IsFront m answers delivered steps → Goal
   cut-off given fault (is, same) front =
       passed [] (took-none mid.output there.output same)
@@ -144,7 +144,7 @@ module _ (m : Module) (valid : IsValid m) (linked : IsLinked m) (row : Layout) (
   made halt.NoMemory did spent closed = cut-off m fuel steps result answers delivered left here mid there gave read took input_is answer.NoMemory (inr refl) closed
       (λ input rest most reads more. cut-front m valid linked row flat begins steps answers delivered left did.0 input rest most reads more)
 
--- a call of a machine that has made no step, and what is held handed on behind it
+-- a call of a machine that has made no step, and the flush of what is buffered after it
 pub run-passed : (m : Module) → IsValid m → IsLinked m → (row : Layout) (flat new : Flat) → ((input : Input) → Represents m row flat (first m input)) → (fuel steps : ℕ) → steps ≤ fuel → (h : machine.Halt) → (h ≡ halt.Spent → steps ≡ fuel) → (result : Answer) (held left : List ℕ) (here mid : Sides) (there : Streams) → held ≡ [] → Makes m row flat new 0 steps (Some h) here mid held left → IsClosed (answer_of_halt h) result left mid.output there.output → there.input ≡ mid.input → Transcript (seen here) there (λ answers delivered. IsAnswered m answers delivered fuel result steps)
 run-passed m valid linked row flat new begins fuel steps within h spent result held left here mid there none makes closed input_is =
     let at : makes.n ≡ steps = sym (zero-add makes.n) ∙ makes.steps_are in
@@ -165,7 +165,7 @@ passed-spelled bytes m fuel run before after only passed = record {
   holds = λ n spelled. subst (λ (x : Module). IsAnswered x passed.answers passed.delivered fuel run.answer run.steps) (sym (only n spelled)) passed.holds;
 }
 
--- ---- where the source tells what it has left
+-- ---- where the source says what it has left
 
 -- what is left of it
 abbrev left_of : Option source.Input → Option (List ℕ)

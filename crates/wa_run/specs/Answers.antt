@@ -1,4 +1,4 @@
--- What the answer of a run tells.
+-- What the answer of a run says.
 use Rattle.std.specs.Prelude.{⊤}
 use Rattle.wa_exec.specs.declared.halt.Halt.{Halt}
 use Rattle.wa_exec.specs.declared.halt.Halt.TheVariants as halt
@@ -30,13 +30,13 @@ IsBeforeRun (answer.Unlinked import) = ⊤
 IsBeforeRun answer.Segment = ⊤
 IsBeforeRun _ = ⊥
 
--- a fault is answered only where this says that the source or the sink had one
+-- a fault is answered only where the source or the sink had one, as these propositions say
 abbrev pub IsFaultReported : Answer → Type 0 → Type 0 → Type 0
 IsFaultReported answer.InFault input_failed out_failed = input_failed
 IsFaultReported answer.OutFault input_failed out_failed = out_failed
 IsFaultReported _ input_failed out_failed = ⊤
 
--- the sink failed, as this says, or memory ran out
+-- the sink failed, as this proposition says, or memory ran out
 abbrev pub IsOutage : Answer → Type 0 → Type 0
 IsOutage answer.OutFault out_failed = out_failed
 IsOutage answer.NoMemory out_failed = ⊤

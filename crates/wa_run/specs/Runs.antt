@@ -14,7 +14,7 @@ use Rattle.wa_run.specs.declared.answer.Answer.{Answer}
 use Rattle.wa_run.specs.declared.answer.Answer.TheVariants as answer
 use Rattle.wa_run.specs.declared.module_run.RunResult.{RunResult}
 
--- what an input has left and what an output has taken, where they tell
+-- what an input has left and what an output has taken, where they say
 pub record Streams : Type 0 where
   pub input : Option source.Input
   pub output : Option (List ℕ)
@@ -24,21 +24,21 @@ streams input output = record { input = input; output = output }
 
 module _ (m : Module) (answers : List Take) (delivered : List ℕ) where
   -- whatever input gives these answers and goes on so, the run within so many instructions ends so and reads just these answers,
-  -- and what was handed on is its output
+  -- and what was flushed is its output
   abbrev pub IsRun : (fuel : ℕ) → Halt → (steps : ℕ) → (Comes : Input → Type 0) → Type 0
   IsRun fuel halt steps Comes =
       (input rest : Input) → Reads input answers rest → Comes rest →
       (machine_run m input fuel ≡ record { halt = halt; steps = steps; output = delivered }) × (input_left m input fuel ≡ rest)
 
   -- whatever input gives these answers, a run of so many instructions or more reads them first, and its output begins with what was
-  -- handed on
+  -- flushed
   abbrev pub IsFront : (steps : ℕ) → Type 0
   IsFront steps =
       (input rest : Input) (most : ℕ) → Reads input answers rest → steps ≤ most →
       ((further : List Take) × Reads rest further (input_left m input most))
       × ((more : List ℕ) × ((machine_run m input most).output ≡ delivered ++ more))
 
-  -- nothing is read and nothing handed on
+  -- nothing is read and nothing flushed
   abbrev pub IsNothing : Type 0
   IsNothing = (answers ≡ []) × (delivered ≡ [])
 
@@ -75,7 +75,7 @@ abbrev pub HasRun : (bytes : List ℕ) → (fuel : ℕ) → RunResult → (befor
 HasRun bytes fuel run before after =
     Transcript before after (λ answers delivered. (m : Module) → SpellsModule bytes m → IsAnswered m answers delivered fuel run.answer run.steps)
 
--- ---- where the source tells what it has left
+-- ---- where the source says what it has left
 
 -- how a run of the standard ends that is answered so, where neither the source nor the sink fails and memory doesn't run out
 abbrev pub halt_of : Answer → Option Halt
@@ -102,15 +102,15 @@ IsStandardModuleRun m fuel run before after =
 abbrev pub IsStandardRun : (bytes : List ℕ) → (fuel : ℕ) → RunResult → (before after : Streams) → Type 0
 IsStandardRun bytes fuel run before after = (m : Module) → SpellsModule bytes m → IsStandardModuleRun m fuel run before after
 
--- ---- the output that is held at the end
+-- ---- the output that is buffered at the end
 
--- the bytes that are held are handed on, and the answer stays; or the sink takes a front of them alone
+-- the buffered bytes are flushed, and the answer stays; or the sink takes a prefix of them alone
 abbrev pub IsFlushed : (given result : Answer) → (held : List ℕ) → (before after : Option (List ℕ)) → Type 0
 IsFlushed given result held before after =
     ((result ≡ given) × Took before after held)
     ⊎ ((held ≢ []) × ((result ≡ answer.OutFault) ⊎ (result ≡ answer.NoMemory)) × TookFront before after held)
 
--- what becomes of an answer at the end. Behind a fault of the sink, or where it had no memory, nothing more is handed on
+-- the answer at the end, from the one before the flush. After a fault of the sink, or where it had no memory, nothing more is flushed
 abbrev pub IsClosed : (given result : Answer) → (held : List ℕ) → (before after : Option (List ℕ)) → Type 0
 IsClosed answer.OutFault result held before after = (result ≡ answer.OutFault) × (after ≡ before)
 IsClosed answer.NoMemory result held before after = (result ≡ answer.NoMemory) × (after ≡ before)

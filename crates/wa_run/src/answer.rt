@@ -11,10 +11,10 @@ use wa_syntax::TrapKind;
 pub enum Answer {
     /// The bytes are no module.
     Malformed,
-    /// The module isn't valid: the place of the first ill-typed function among its own, or none where a rule outside the
+    /// The module isn't valid: the index of the first ill-typed function among its own, or none where a rule outside the
     /// bodies is broken.
     Invalid(Option<u32>),
-    /// The import of this number is none of the host's functions, or, with the number of imports, there is no `main` to
+    /// The import of this index is none of the host's functions, or, with the number of imports, there is no `main` to
     /// call.
     Unlinked(u32),
     /// A segment goes past the end of the table or the memory.

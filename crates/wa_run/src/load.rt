@@ -33,7 +33,7 @@ pub(crate) fn load(alloc: Global, bytes: &[u8]) -> Result<Valid, Answer>
 }
 
 /// The module that the bytes spell, where it can be run: it is valid, it is linked, and its segments fit. It takes no table
-/// and no memory to find out.
+/// and no memory for the check.
 ///
 /// # Errors
 ///

@@ -28,13 +28,13 @@ use wa_valid::Valid;
 pub struct RunResult {
     pub answer: Answer,
     pub steps: u64,
-    /// The function whose instruction ended the run, by a trap or by a call that is too deep, where one did: its number among all
+    /// The function whose instruction ended the run, by a trap or by a call that is too deep, where one did: its index among all
     /// functions of the module, the imported ones first.
     pub func: Option<usize>,
 }
 
 /// Runs the module that these bytes spell, with at most `fuel` steps. Its output goes to `out` and its input comes from
-/// `input`; all that it put before its end, a trap or the end of its fuel is handed on.
+/// `input`; all that it put before its end, a trap or the end of its fuel is flushed.
 pub fn run_bytes<I: Source, O: Sink>(
     alloc: Global,
     bytes: &[u8],
@@ -145,14 +145,14 @@ fn run_machine<I: Source, O: Sink>(
     }
 }
 
-/// The answer after the output that is held is handed on. After a fault of the sink, or where it had no memory, nothing
-/// more is handed on: the sink has taken a front of what is held.
+/// The answer after the buffered output is flushed. After a fault of the sink, or where it had no memory, nothing
+/// more is flushed: the sink has taken a prefix of the buffered bytes.
 pub fn answer_after_flush<O: Sink>(answer: Answer, host: &mut Host, out: &mut O) -> Answer
     ensures same { result ≡ answer ⊎ IsOutage result (Rose (O.faults out.old) (O.faults out.new)) }
     ensures output { Grew (O.output out.old) (O.output out.new) }
     ensures sink { O.faults out.old ≤ O.faults out.new }
     ensures closed { IsClosed answer result host.old (O.output out.old) (O.output out.new) }
-    // A run that can go on holds nothing then.
+    // Where a run can go on, the buffer is then empty.
     ensures empties { result ≡ Answer.Spent → host.new ≡ [] }
 {
     match answer {

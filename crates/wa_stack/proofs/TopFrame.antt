@@ -1,4 +1,4 @@
--- The words of the top frame among all words. `view` is what a region of these words is seen as.
+-- The words of the top frame among all words. `view` is what contracts see of a stack of frames with these words.
 use Rattle.std.proofs.Common.{◌≡◌, ℕ, suc, ◌+◌, ◌-◌, ◌<◌, ◌≤◌, List, [], ◌∷◌, ◌++◌, length, reverse, take, drop, slice_range, refl, sym, subst, ap, ◌∙◌, append_assoc, arith}
 use Rattle.std.proofs.Math.Seq.{drop-append_seam}
 use Rattle.std.proofs.lemmas.Grind.{common_steps}
@@ -61,7 +61,7 @@ pub frames-with_items_from : (base : ℕ) (bases : List ℕ) (words : Vec ℕ) (
 frames-with_items_from base bases words view ws h e =
     refilled base bases words.items view ws words.len (drop (length (take base words.items ++ (ws ++ drop (length ws) (drop base words.items)))) words.items) words.ok.0 h e
 
--- as many frames are open as places are kept
+-- as many frames are open as beginnings are kept
 pub length-frames : (base : ℕ) (bases words : List ℕ) → length (frames base bases words) ≡ length bases
 length-frames base [] words = refl
 length-frames base (below ∷ bases) words = ap suc (length-frames below bases (take base words))

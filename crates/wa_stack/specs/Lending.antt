@@ -1,4 +1,4 @@
--- What a region is once the borrow of its top frame is over.
+-- The stack of frames once the borrow of its top frame is over.
 use Rattle.std.specs.Prelude.{ℕ, List}
 use Rattle.std.specs.Borrow.{Lends, MutBor, Fml, Array, u64}
 use Rattle.wa_stack.specs.Frames.{with_words}

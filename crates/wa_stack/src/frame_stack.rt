@@ -1,11 +1,11 @@
-//! A region of words: frames, last in, first out, each of which holds the words last set in it, whatever the others do.
+//! A stack of frames of words, last in, first out. Each frame holds the words last set in it, whatever the others do.
 
 ghost use Rattle.std.specs.Prelude.{◌≡◌, ◌+◌, ◌-◌, ◌<◌, ◌≤◌, ◌∷◌, [], ◌++◌, length, drop, replicate, slice_index, slice_range, OnOk, OnErr};
 ghost use Rattle.std.specs.Borrow.{sem};
 ghost use Rattle.wa_stack.specs.Frames.{top, with_word};
 ghost use Rattle.wa_stack.specs.Lending.{LendsTop};
 
-use crate::no_memory::NoMemory;
+use failure::NoMemory;
 use std::alloc::Global;
 use std::marker::Model;
 
@@ -33,7 +33,7 @@ impl Model for FrameStack {
 }
 
 impl FrameStack {
-    /// A region with no frame.
+    /// A stack with no frame.
     pub fn new(alloc: Global) -> FrameStack
         ensures { result ≡ [] }
     {
@@ -100,7 +100,7 @@ impl FrameStack {
         self.base = self.bases.pop().unwrap();
     }
 
-    /// The word of the top frame at this place.
+    /// The word of the top frame at this index.
     #[inline]
     pub fn get(&self, at: u32) -> u64
         requires { at < length (top self.now) }
@@ -109,7 +109,7 @@ impl FrameStack {
         self.top()[at as usize]
     }
 
-    /// Sets the word of the top frame at this place.
+    /// Sets the word of the top frame at this index.
     #[inline]
     pub fn set(&mut self, at: u32, word: u64)
         requires { at < length (top self.old) }
@@ -127,7 +127,7 @@ impl FrameStack {
         &self.words[self.base..]
     }
 
-    /// The words of the top frame, to be set.
+    /// The words of the top frame, for writing.
     #[inline]
     pub fn top_mut(&mut self) -> &mut [u64]
         requires { 0 < length self.old }

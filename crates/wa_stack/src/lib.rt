@@ -2,7 +2,6 @@
 #![tactic(auto)]
 
 mod frame_stack;
-mod no_memory;
 
+pub use failure::NoMemory;
 pub use frame_stack::FrameStack;
-pub use no_memory::NoMemory;

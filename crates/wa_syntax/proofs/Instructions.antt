@@ -1,4 +1,4 @@
--- What each instruction stands for in the definitions, one equation for each variant.
+-- What each instruction denotes in the definitions, one equation for each variant.
 use Rattle.std.proofs.Common.{◌≡◌, ℕ, List, Option, sym, ap, ◌∙◌}
 use Rattle.wa_syntax.specs.declared.instr.Instr.{Instr}
 use Rattle.wa_syntax.specs.declared.instr.Instr.TheOpen.{Instr-F}

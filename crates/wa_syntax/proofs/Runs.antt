@@ -1,4 +1,4 @@
--- The types that runs stand for, one more run behind them or in front.
+-- The types that runs denote, with one more run at the end or at the beginning.
 use Rattle.std.proofs.Common.{◌≡◌, ℕ, zero, suc, ◌+◌, ◌-◌, ◌<◌, ◌≤◌, List, [], ◌∷◌, ◌++◌, length, get_or, drop, replicate, slice_get, Some, refl, sym, ap, ◌∙◌, append_assoc, arith}
 use Rattle.std.proofs.lemmas.List.{append-nil, at_drop_more, length-append, length-replicate}
 use Rattle.wa_syntax.specs.declared.module.ValTy.{ValTy}

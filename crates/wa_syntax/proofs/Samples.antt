@@ -94,7 +94,7 @@ starting = record {
   segments = [];
 }
 
--- it leaves nothing behind
+-- it leaves nothing
 abbrev left_by_start : State
 left_by_start = record {
   code = nothing;
@@ -118,7 +118,7 @@ stack_of (Finished left results s) = s.stack
 stack_of (Halted halt left s) = s.stack
 stack_of (Unfinished s) = s.stack
 
--- behind it `main` stands in its own activation alone
+-- after it `main` is in its own activation alone
 pub starting-runs : stack_of (run_all starting (functions_of starting) (Finished 1 [] (first_state starting no_input))) ≡ Activation 1 nothing [] [] ∷ []
 unfolding bind
 starting-runs = ap (λ (ran : Ran). stack_of (run_all starting (1 ∷ []) ran)) starting-starts

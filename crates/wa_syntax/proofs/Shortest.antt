@@ -17,7 +17,7 @@ seven_from bits h = elim (cases_lt 7 bits) [
       omega arith)
 ]
 
--- what spells the rest spells the whole behind the front
+-- what spells the rest spells the whole once the first byte is put before it
 pub record Completes {V : Type 0} (IsSpelling : List ℕ → V → Type 0) (front : List ℕ) (rest v : V) : Type 0 where
   pub following : (tail : List ℕ) → IsSpelling tail rest → IsSpelling (front ++ tail) v
 

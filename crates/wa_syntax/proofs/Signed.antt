@@ -49,7 +49,7 @@ IsSigned-below bits bytes z h some few =
     let most : 2 ^ (bits - 1) ≤ 2 ^ 56 = pow_mono {i = bits - 1} {j = 56} (omega arith) in
     omega (arith, ints, within.below)
 
--- a byte in front of the bits above
+-- a byte before the bits above
 pub IsSigned-more : (bits b : ℕ) (bytes : List ℕ) (m : ℤ) → 128 ≤ b → b < 256 → 7 < bits → IsSigned (bits - 7) bytes m → IsSigned bits (b ∷ bytes) (pos 128 *ℤ m +ℤ pos (b - 128))
 IsSigned-more bits b [] m from below more h = absurd h
 IsSigned-more bits b (c ∷ bytes) m from below more h = (from, below, more, m, refl, h)
@@ -57,7 +57,7 @@ IsSigned-more bits b (c ∷ bytes) m from below more h = (from, below, more, m, 
 pub IsLastSigned-small : (bits b : ℕ) (z : ℤ) → IsLastSigned bits b z → b < 128
 IsLastSigned-small bits b z h = elim h [ inl plain ↦ omega (arith, plain.0) | inr less ↦ less.1 ]
 
--- a byte below 128 is the last, and any other is in front of the bits above
+-- a byte below 128 is the last, and any other is before the bits above
 pub IsSigned-at_last : (bits b : ℕ) (bytes : List ℕ) (z : ℤ) → b < 128 → IsSigned bits (b ∷ bytes) z → IsLastSigned bits b z × (bytes ≡ [])
 IsSigned-at_last bits b [] z small h = (h, refl)
 IsSigned-at_last bits b (c ∷ bytes) z small h = absurd (omega (arith, h.0))

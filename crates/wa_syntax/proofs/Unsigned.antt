@@ -16,12 +16,12 @@ IsUnsigned-under bits bytes n few h =
     let most : 2 ^ bits ≤ 2 ^ 25 = pow_mono few in
     omega (arith, IsUnsigned-below bits bytes n h)
 
--- a byte in front of the bits above
+-- a byte before the bits above
 pub IsUnsigned-more : (bits b : ℕ) (bytes : List ℕ) (m : ℕ) → 128 ≤ b → b < 256 → 7 < bits → IsUnsigned (bits - 7) bytes m → IsUnsigned bits (b ∷ bytes) (128 * m + (b - 128))
 IsUnsigned-more bits b [] m from below more h = absurd h
 IsUnsigned-more bits b (c ∷ bytes) m from below more h = (from, below, more, m, refl, h)
 
--- the one byte of a number below 128, or a byte in front of the bits above
+-- the one byte of a number below 128, or a byte before the bits above
 abbrev pub Begins : ℕ → ℕ → List ℕ → ℕ → Type 0
 Begins bits b bytes n =
     ((b < 128) × (b < 2 ^ bits) × (n ≡ b) × (bytes ≡ []))
@@ -42,7 +42,7 @@ Spells-more bits bytes at end b m within is from below more high =
       spelling = rw (slice_range-more bytes at end within (omega arith), ← is) (IsUnsigned-more bits b (slice_range bytes (at + 1) end) m from below more high.spelling);
     }
 
--- what is spelled at a place, by the byte there
+-- what is spelled at a position, by the byte there
 abbrev pub SpellsOn : ℕ → List ℕ → ℕ → ℕ → ℕ → ℕ → Type 0
 SpellsOn bits bytes at end b n =
     ((b < 128) × (b < 2 ^ bits) × (n ≡ b) × (end ≡ at + 1))

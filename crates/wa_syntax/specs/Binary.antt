@@ -54,15 +54,15 @@ globaltype t = valtype t.val then mut t.mutable
 
 -- ---- sections (5.5.2)
 
--- a section: its number, and its sized content
+-- a section: its id, and its sized content
 abbrev pub section : ℕ → Format → Format
 section id B = byte id then sized B
 
--- the section of a vector, which may be left out where it is empty
+-- the section of a vector, which may be omitted where it is empty
 abbrev pub vecsec : {V : Type 0} → ℕ → (V → Format) → List V → Format
 vecsec id B vs bytes = ((vs ≡ []) × (bytes ≡ [])) ⊎ section id (vec B vs) bytes
 
--- a section that means nothing: a name, and any bytes (5.5.3)
+-- a custom section: a name, and any bytes (5.5.3)
 abbrev pub custom : List ℕ × List ℕ → Format
 custom c = section 0 (name c.0 then exactly c.1)
 
@@ -105,7 +105,7 @@ startsec (Some x) = section 8 (u32 x)
 abbrev pub elem : ElemSegment → Format
 elem e = u32 e.table then init e.offset then vec u32 e.funcs
 
--- locals of one type in a row (5.5.13)
+-- a run: consecutive locals of one type (5.5.13)
 abbrev pub run : LocalRun → Format
 run r = u32 r.count then valtype r.ty
 
@@ -131,7 +131,7 @@ magic = exactly (0x00 ∷ 0x61 ∷ 0x73 ∷ 0x6d ∷ [])
 abbrev pub version : Format
 version = exactly (0x01 ∷ 0x00 ∷ 0x00 ∷ 0x00 ∷ [])
 
--- the bytes spell the module: sections in this order, and sections that mean nothing anywhere between them
+-- the bytes spell the module: sections in this order, and custom sections anywhere between them
 abbrev pub SpellsModule : List ℕ → Module → Type 0
 SpellsModule bytes m = (
     magic then version

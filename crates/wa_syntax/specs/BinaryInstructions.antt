@@ -45,7 +45,7 @@ plain op bytes = (IsBare op × byte op bytes) ⊎ (IsOfMemory op × (byte op the
 abbrev pub access : ℕ → ℕ → ℕ → Format
 access op align offset bytes = IsAccess op × (byte op then u32 align then u32 offset) bytes
 
--- a conditional: where nothing is done otherwise, the second branch may be left out (5.4.1)
+-- a conditional: where the second branch is empty, it may be omitted with its `else` (5.4.1)
 abbrev pub conditional : (List Instr → Format) → Option ValTy → List Instr → List Instr → Format
 conditional Body t yes_branch no_branch bytes =
     ((no_branch ≡ []) × (byte 0x04 then blocktype t then Body yes_branch then byte 0x0b) bytes)
@@ -71,12 +71,12 @@ instr_over Body (Instr-F.Memory op align offset) = access op align offset
 instr_over Body (Instr-F.I32Const n) = byte 0x41 then i32 n
 instr_over Body (Instr-F.I64Const n) = byte 0x42 then i64 n
 
--- an instruction in which at most so many blocks are open at a place
+-- an instruction in which at most so many blocks are open at a point
 unfoldable pub instr : ℕ → Instr → Format
 instr zero i = instr_over (λ body bytes. ⊥) (out-Instr i)
 instr (suc levels) i = instr_over (each (instr levels)) (out-Instr i)
 
--- how many blocks may be open at a place of a function
+-- how many blocks may be open at a point of a function
 abbrev pub max_nesting : ℕ
 max_nesting = 1000
 

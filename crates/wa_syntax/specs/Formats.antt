@@ -5,7 +5,7 @@ use Rattle.std.specs.Int.{w32, w64, cast_unsigned}
 use Rattle.std.specs.Str.{IsUtf8}
 use Rattle.wa_syntax.specs.Leb128.{IsUnsigned, IsSigned}
 
--- A format is the bytes that spell a value: a test on lists of bytes. Each production gives the format of its value.
+-- A format is a predicate on lists of bytes: the bytes that spell a value. Each production gives the format of its value.
 abbrev pub Format : Type 1
 Format = List ℕ → Type 0
 
@@ -15,12 +15,12 @@ Format = List ℕ → Type 0
 abbrev pub exactly : List ℕ → Format
 exactly wanted bytes = bytes ≡ wanted
 
--- the one format, and behind it the other
+-- the one format, and after it the other
 infixr 5 ◌then◌
 abbrev pub ◌then◌ : Format → Format → Format
 (A then B) bytes = (front : List ℕ) × (back : List ℕ) × (bytes ≡ front ++ back) × A front × B back
 
--- the values one behind another
+-- the values one after another
 abbrev pub each : {V : Type 0} → (V → Format) → List V → Format
 each B [] = exactly []
 each B (v ∷ vs) = B v then each B vs

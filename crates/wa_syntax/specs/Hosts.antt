@@ -59,7 +59,7 @@ host_of m import = of import.kind
     of (ImportKind.Memory limits) = None
     of (ImportKind.Global ty) = None
 
--- the type of the function of this number, where all imports are functions
+-- the type of the function of this index, where all imports are functions
 abbrev pub type_of : Module → ℕ → Option FuncTy
 type_of m func =
     if nat_lt func (length m.imports) then imported (slice_get m.imports func) else own (slice_get m.funcs (func - length m.imports))
@@ -78,14 +78,14 @@ type_of m func =
     own None = None
     own (Some f) = slice_get m.types f.ty
 
--- the function of this number is of this type
+-- the function of this index is of this type
 abbrev pub has_type : Module → ℕ → Option FuncTy → Bool
 has_type m func None = false
 has_type m func (Some ty) = is_type ty (type_of m func)
 
 -- ---- what they do
 
--- the lowest 8 bits go out
+-- the lowest 8 bits are put out
 abbrev pub put : ℕ → Eval (Unit {0})
 put n = change (λ s. record s { output = s.output ++ n % 2 ^ 8 ∷ [] })
 

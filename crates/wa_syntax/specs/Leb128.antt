@@ -22,7 +22,7 @@ IsSigned bits (b ∷ []) z = IsLastSigned bits b z
 IsSigned bits (b ∷ c ∷ bytes) z =
     (2 ^ 7 ≤ b) × (b < 2 ^ 8) × (7 < bits) × (m : ℤ) × (z ≡ pos (2 ^ 7) *ℤ m +ℤ pos (b - 2 ^ 7)) × IsSigned (bits - 7) (c ∷ bytes) m
 
--- from one place up to another, the bytes are a spelling of v
+-- from one position up to another, the bytes are a spelling of v
 pub record Spells {V : Type 0} (IsSpelling : List ℕ → V → Type 0) (bytes : List ℕ) (from to : ℕ) (v : V) : Type 0 where
   pub within : to ≤ length bytes
   pub spelling : IsSpelling (slice_range bytes from to) v

@@ -1,4 +1,4 @@
--- The types that runs of locals stand for.
+-- The types that runs of locals denote.
 use Rattle.std.specs.Prelude.{List, [], ◌∷◌, ◌++◌, replicate}
 use Rattle.wa_syntax.specs.declared.module.ValTy.{ValTy}
 use Rattle.wa_syntax.specs.declared.locals.LocalRun.{LocalRun}

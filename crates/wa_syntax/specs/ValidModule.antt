@@ -15,7 +15,7 @@ use Rattle.wa_syntax.specs.Validity.{Context, HasFunction, IsTypedFunction}
 
 -- ---- what is imported
 
--- the number of an imported function's type
+-- the index of an imported function's type
 abbrev pub imported_function : ImportKind → Option ℕ
 imported_function (ImportKind.Func ty) = Some ty
 imported_function (ImportKind.Table limits) = None

@@ -11,7 +11,7 @@ use Rattle.wa_syntax.specs.Instructions.{Block, Loop, If, Br, BrIf, BrTable, Cal
 use Rattle.wa_syntax.specs.Instructions.{LocalTee, GlobalGet, GlobalSet, I32Const, I64Const, Numeric, Memory}
 use Rattle.wa_syntax.specs.Instructions.{Sequence, nothing, ◌then◌, sequence, Access, load_of, store_of, numeric_type}
 
--- what the parts of a module may name by number, the imported things first (3.1.1): a function stands there as the number of
+-- what the parts of a module may name by index, the imported things first (3.1.1): a function is there as the index of
 -- its type, and a label, the innermost first, and the end of the function as the types that a branch there wants
 pub record Context : Type 0 where
   pub types : List FuncTy
@@ -27,19 +27,19 @@ pub record Context : Type 0 where
 abbrev pub with_label : List ValTy → Context → Context
 with_label wanted c = record c { labels = wanted ∷ c.labels }
 
--- the function of this number has this type
+-- the function of this index has this type
 abbrev pub HasFunction : Context → ℕ → FuncTy → Type 0
 HasFunction c func ty = (number : ℕ) × (slice_get c.funcs func ≡ Some number) × (slice_get c.types number ≡ Some ty)
 
--- the label of this number wants these types
+-- the label of this index wants these types
 abbrev pub HasLabel : Context → List ValTy → ℕ → Type 0
 HasLabel c wanted label = slice_get c.labels label ≡ Some wanted
 
--- it takes operands of some types from the top and puts others there, whatever lies below
+-- it takes operands of some types from the top and puts others there, whatever is below
 abbrev pub Gives : (taken given before after : List ValTy) → Type 0
 Gives taken given before after = (below : List ValTy) × (before ≡ reverse taken ++ below) × (after ≡ reverse given ++ below)
 
--- it takes operands of these types from the top, whatever lies below. Control doesn't go on behind it, so what it leaves is free
+-- it takes operands of these types from the top, whatever is below. Control doesn't continue after it, so what it leaves is free
 abbrev pub Takes : (taken before : List ValTy) → Type 0
 Takes taken before = (below : List ValTy) × (before ≡ reverse taken ++ below)
 

@@ -7,38 +7,38 @@ use crate::module::ValTy;
 use sqlite_items::{Boxed, Items};
 use std::alloc::{AllocError, Global};
 
-/// An instruction. Blocks hold their instructions and have the type of their result, if they have one. Labels count the
-/// blocks outwards from 0 (2.4.5).
+/// An instruction. Blocks hold their instructions and have the type of their result, if they have one. Labels are relative to
+/// the nesting: 0 is the innermost block (2.4.5).
 ///
-/// What an instruction holds stands behind one pointer, so that an instruction takes 16 bytes.
+/// What an instruction holds is behind one pointer, so that an instruction takes 16 bytes.
 #[derive(Drop)]
 pub enum Instr {
     /// An instruction that is its opcode alone: `unreachable`, `nop`, `return`, `drop`, `select`, `memory.size`,
     /// `memory.grow` and the numeric instructions (2.4.1, 2.4.2, 2.4.4, 2.4.5).
     Plain(u8),
-    /// Instructions whose label is their end (2.4.5).
+    /// A `block` of these instructions; a branch to its label goes to its end (2.4.5).
     Block(Option<ValTy>, Boxed<Items<Instr>>),
-    /// Instructions whose label is their beginning (2.4.5).
+    /// A `loop` of these instructions; a branch to its label goes to its beginning (2.4.5).
     Loop(Option<ValTy>, Boxed<Items<Instr>>),
-    /// What is done where the operand isn't 0, and where it is (2.4.5).
+    /// An `if`: the instructions for an operand that isn't 0, and those for 0 (2.4.5).
     If(Option<ValTy>, Boxed<(Items<Instr>, Items<Instr>)>),
     /// A branch to a label (2.4.5).
     Br(u32),
     /// A branch to a label where the operand isn't 0 (2.4.5).
     BrIf(u32),
-    /// A branch to the label that the operand numbers: the labels, and the label for an operand past them (2.4.5).
+    /// A branch to the label that the operand chooses from these, or to the default where it is past them (2.4.5).
     BrTable(Boxed<(Items<u32>, u32)>),
-    /// A call of the function with this number, the imported ones counted first (2.4.5).
+    /// A call of the function with this index, the imported ones first (2.4.5).
     Call(u32),
-    /// An indirect call of a function of the type with this number (2.4.5).
+    /// An indirect call of a function of the type with this index (2.4.5).
     CallIndirect(u32),
-    /// Reads the local with this number, the parameters counted first (2.4.3).
+    /// Reads the local with this index, the parameters first (2.4.3).
     LocalGet(u32),
     /// Writes a local (2.4.3).
     LocalSet(u32),
     /// Writes a local and keeps the operand (2.4.3).
     LocalTee(u32),
-    /// Reads the global with this number, the imported ones counted first (2.4.3).
+    /// Reads the global with this index, the imported ones first (2.4.3).
     GlobalGet(u32),
     /// Writes a global (2.4.3).
     GlobalSet(u32),

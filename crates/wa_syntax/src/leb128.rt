@@ -8,10 +8,10 @@ ghost use Rattle.std.specs.Prelude.{◌≡◌, ℕ, ◌+◌, ◌-◌, ◌^◌, �
 ghost use Rattle.std.specs.Prelude.{◌≤ℤ◌, ◌<ℤ◌, List, ◌++◌, length, take, IfSome, OnOk, OnErr};
 ghost use Rattle.wa_syntax.specs.Leb128.{IsUnsigned, IsLastSigned, IsSigned, Spells, IsShortest, Appends};
 
-use crate::no_memory::NoMemory;
+use failure::NoMemory;
 
-/// Reads a `u32` (5.2.2) at a place, and gives it with the place after it. `None` says that no `u32` is spelled there, as
-/// where the place is past the end.
+/// Reads a `u32` (5.2.2) at a position, and gives it with the position after it. `None` says that no `u32` is spelled there, as
+/// where the position is past the end.
 pub fn read_u32(b: &[u8], at: u32) -> Option<(u32, u32)>
     requires { length b.now < u32.MAX }
     // What is read is spelled there.
@@ -22,8 +22,8 @@ pub fn read_u32(b: &[u8], at: u32) -> Option<(u32, u32)>
     unsigned(b, at, 32)
 }
 
-/// Reads an `i32` (5.2.2) at a place, and gives it with the place after it. `None` says that no `i32` is spelled there, as
-/// where the place is past the end.
+/// Reads an `i32` (5.2.2) at a position, and gives it with the position after it. `None` says that no `i32` is spelled there, as
+/// where the position is past the end.
 pub fn read_i32(b: &[u8], at: u32) -> Option<(i32, u32)>
     requires { length b.now < u32.MAX }
     // What is read is spelled there.
@@ -35,8 +35,8 @@ pub fn read_i32(b: &[u8], at: u32) -> Option<(i32, u32)>
     Some((number as i32, end))
 }
 
-/// Reads an `i64` (5.2.2) at a place, and gives it with the place after it. `None` says that no `i64` is spelled there, as
-/// where the place is past the end.
+/// Reads an `i64` (5.2.2) at a position, and gives it with the position after it. `None` says that no `i64` is spelled there, as
+/// where the position is past the end.
 pub fn read_i64(b: &[u8], at: u32) -> Option<(i64, u32)>
     requires { length b.now < u32.MAX }
     // What is read is spelled there.
@@ -80,8 +80,8 @@ pub fn write_i64(out: &mut Vec<u8>, v: i64) -> Result<(), NoMemory>
     Ok(())
 }
 
-/// No spelling of a number begins another's. So bytes have one reading, and a number that was written is read again
-/// whatever bytes follow it.
+/// No spelling of a number begins another's: the encoding is prefix-free. So bytes have one reading, and a number that was
+/// written is read again whatever bytes follow it.
 pub fn one_spelling()
     ensures unsigned { (bits : ℕ) (a b x y : List ℕ) (m n : ℕ)
         → IsUnsigned bits a m → IsUnsigned bits b n → a ++ x ≡ b ++ y → (a ≡ b) × (m ≡ n) }
@@ -89,7 +89,7 @@ pub fn one_spelling()
         → IsSigned bits a m → IsSigned bits b n → a ++ x ≡ b ++ y → (a ≡ b) × (m ≡ n) }
 {}
 
-/// Reads uN at a place.
+/// Reads uN at a position.
 #[tactic(auto, using(crate::proofs::Unsigned::reading, std::proofs::lemmas::Grind::common_steps))]
 fn unsigned(b: &[u8], at: u32, bits: u32) -> Option<(u32, u32)>
     requires few_bytes { length b.now < u32.MAX }
@@ -108,7 +108,7 @@ fn unsigned(b: &[u8], at: u32, bits: u32) -> Option<(u32, u32)>
     Some((128 * high + u32::from(byte - 128), end))
 }
 
-/// Reads sN at a place.
+/// Reads sN at a position.
 #[tactic(auto, using(crate::proofs::Signed::reading, std::proofs::lemmas::Grind::common_steps))]
 fn signed(b: &[u8], at: u32, bits: u32) -> Option<(i64, u32)>
     requires few_bytes { length b.now < u32.MAX }
@@ -128,7 +128,7 @@ fn signed(b: &[u8], at: u32, bits: u32) -> Option<(i64, u32)>
     Some((joined(high, byte), end))
 }
 
-/// What a byte stands for as the last of sN.
+/// The number that a byte denotes as the last one of sN.
 fn last_signed(byte: u8, bits: u32) -> Option<i64>
     requires some_bits { 0 < bits }
     requires few_bits { bits ≤ 64 }
@@ -156,7 +156,7 @@ fn joined(high: i64, byte: u8) -> i64
     128 * high + i64::from(byte - 128)
 }
 
-/// The shortest spelling of a number as u32: the front of an array, and its length.
+/// The shortest spelling of a number as u32: a prefix of an array, and its length.
 fn unsigned_bytes(v: u32) -> ([u8; 5], usize)
     ensures within { result.1 ≤ length result.0 }
     ensures shortest { IsShortest (IsUnsigned 32) (take result.1 result.0) v }
@@ -173,7 +173,7 @@ fn unsigned_bytes(v: u32) -> ([u8; 5], usize)
     (bytes, len + 1)
 }
 
-/// The shortest spelling of a number as sN, for each N whose numbers it is among: the front of an array, and its length.
+/// The shortest spelling of a number as sN, for each N whose numbers it is among: a prefix of an array, and its length.
 fn signed_bytes(v: i64) -> ([u8; 10], usize)
     ensures within { result.1 ≤ length result.0 }
     ensures shortest { (bits : ℕ) → neg_ℤ (pos (2 ^ (bits - 1))) ≤ℤ v → v <ℤ pos (2 ^ (bits - 1))

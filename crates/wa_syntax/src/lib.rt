@@ -6,10 +6,10 @@ mod leb128;
 mod locals;
 mod module;
 mod name;
-mod no_memory;
 pub mod opcode;
 mod trap;
 
+pub use failure::NoMemory;
 pub use instr::Instr;
 pub use leb128::{one_spelling, read_i32, read_i64, read_u32, write_i32, write_i64, write_u32};
 pub use locals::{LocalRun, Locals};
@@ -18,5 +18,4 @@ pub use module::{
     ImportKind, Init, Limits, Module, ValTy,
 };
 pub use name::WasmName;
-pub use no_memory::NoMemory;
 pub use trap::TrapKind;

@@ -7,14 +7,14 @@ use crate::module::ValTy;
 use std::alloc::{AllocError, Global};
 use std::marker::Model;
 
-/// Locals of one type in a row (5.5.13).
+/// A run: consecutive locals of one type (5.5.13).
 #[derive(Clone, Copy, Debug, PartialEq, Eq, Hash)]
 pub struct LocalRun {
     pub count: u32,
     pub ty: ValTy,
 }
 
-/// The types of locals, in order (2.5.3). Contracts see one type for each local.
+/// The types of a function's locals, in order (2.5.3). Contracts see one type for each local.
 #[derive(Debug, Drop)]
 pub struct Locals {
     runs: Vec<LocalRun>,
@@ -70,7 +70,7 @@ impl Locals {
         self.count == 0
     }
 
-    /// The type of the local with this number, counted from 0, or `None` past the last. Takes a step for each run up to it.
+    /// The type of the local with this index, counted from 0, or `None` past the last. Takes a step for each run up to it.
     pub fn get(&self, at: u32) -> Option<ValTy>
         ensures { result ≡ slice_get self.now at }
     {
@@ -85,7 +85,7 @@ impl Locals {
     }
 }
 
-/// The type at a place of the list that runs stand for.
+/// The type at an index of the list that runs denote.
 fn type_at(runs: &[LocalRun], at: u32) -> Option<ValTy>
     ensures { result ≡ slice_get (types_of_runs runs.now) at }
 {

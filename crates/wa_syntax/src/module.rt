@@ -33,7 +33,7 @@ pub struct GlobalTy {
     pub mutable: bool,
 }
 
-/// The initial value of a global, or the offset of a segment (2.5.5): a constant's bits, or a global by its number.
+/// The initial value of a global, or the offset of a segment (2.5.5): a constant's bits, or the index of a global.
 #[derive(Clone, Copy, Debug, PartialEq, Eq, Hash)]
 pub enum Init {
     Const32(u32),
@@ -41,7 +41,7 @@ pub enum Init {
     Global(u32),
 }
 
-/// What an import asks for (2.5.11): a function by the number of its type, or a table, a memory or a global by its type.
+/// What an import asks for (2.5.11): a function by the index of its type, or a table, a memory or a global by its type.
 #[derive(Clone, Copy, Debug, PartialEq, Eq, Hash)]
 pub enum ImportKind {
     Func(u32),
@@ -58,7 +58,7 @@ pub struct Import {
     pub kind: ImportKind,
 }
 
-/// What is exported (2.5.10), by its number, the imports of its kind counted first.
+/// What is exported (2.5.10), by its index, the imports of its kind first.
 #[derive(Clone, Copy, Debug, PartialEq, Eq, Hash)]
 pub enum ExportKind {
     Func(u32),
@@ -74,7 +74,7 @@ pub struct Export {
     pub kind: ExportKind,
 }
 
-/// A function of the module's own (2.5.3): the number of its type, its locals without the parameters, and its body.
+/// A function of the module's own (2.5.3): the index of its type, its locals without the parameters, and its body.
 #[derive(Drop)]
 pub struct Func {
     pub ty: u32,
@@ -89,7 +89,7 @@ pub struct GlobalDef {
     pub init: Init,
 }
 
-/// A segment of a table (2.5.7): functions by their numbers, from the offset on.
+/// A segment of a table (2.5.7): the indices of functions, from the offset on.
 #[derive(Drop)]
 pub struct ElemSegment {
     pub table: u32,
@@ -115,7 +115,7 @@ pub struct Module {
     pub memories: Items<Limits>,
     pub globals: Items<GlobalDef>,
     pub exports: Items<Export>,
-    /// The number of the start function (2.5.9).
+    /// The index of the start function (2.5.9).
     pub start: Option<u32>,
     pub elems: Items<ElemSegment>,
     pub segments: Items<DataSegment>,

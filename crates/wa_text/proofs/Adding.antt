@@ -1,4 +1,4 @@
--- What is written behind what, by the grammar of forms.
+-- What is written after what, by the grammar of forms.
 use Rattle.std.proofs.Common.{◌≡◌, ℕ, List, [], ◌∷◌, ◌++◌, Result, Ok, OnOk, sym, ap, subst, ◌∙◌, append_assoc}
 use Rattle.std.proofs.lemmas.List.{append-nil}
 use Rattle.std.proofs.lemmas.List.Concat.{flat_map-append}
@@ -7,7 +7,7 @@ use Rattle.std.specs.Prelude.{flat_map}
 use Rattle.std.specs.Global.{Vec}
 use Rattle.std.specs.List.{FoldsTo, join_with_byte}
 use denote.Ref.{Bor, MutBor}
-use Rattle.wa_syntax.specs.declared.no_memory.NoMemory.{NoMemory}
+use Rattle.failure.specs.declared.no_memory.NoMemory.{NoMemory}
 use Rattle.wa_text.specs.Forms.{Form, nothing, ◌then◌, each}
 use Rattle.wa_text.specs.Words.{Word, line, word}
 use Rattle.wa_text.specs.Writing.{Adds, AddsWords, AddsLines, Leaves, following}
@@ -39,7 +39,7 @@ Adds-one {X} {show} F x old new only is = record {
   is = is ∙ ap (λ (more : List ℕ). old ++ more) (sym (append-nil (show x)));
 }
 
--- the one, and behind it the other
+-- the one, and after it the other
 pub Adds-then : {X : Type 0} {show : X → List ℕ} {A B : Form X} {old middle new : List ℕ} → Adds show A old middle → Adds show B middle new → Adds show (A then B) old new
 Adds-then {X} {show} {A} {B} {old} {middle} {new} a b = record {
   items = a.items ++ b.items;
@@ -68,7 +68,7 @@ pub Adds-word_line : (F : Form Word) (w : Word) (old begun new : List ℕ) → (
 Adds-word_line F w old begun new only begins ends =
     Adds-one (line F) (w ∷ []) old new (λ other h. h.2 ∙ ap (λ (words : List Word). words ∷ []) (only h.0 h.1)) (ends ∙ ap (λ (text : List ℕ). text ++ 10 ∷ []) begins ∙ append_assoc old w (10 ∷ []))
 
--- a line of a word, and words of a form behind it
+-- a line of a word, and words of a form after it
 pub Adds-line : (A B : Form Word) (w : Word) (old begun middle new : List ℕ) → ((other : List Word) → A other → other ≡ w ∷ []) → begun ≡ old ++ w → AddsWords B begun middle → new ≡ middle ++ 10 ∷ [] → AddsLines (line (A then B)) old new
 Adds-line A B w old begun middle new only begins h ends =
     Adds-one (line (A then B)) (w ∷ h.items) old new
@@ -80,7 +80,7 @@ Adds-line A B w old begun middle new only begins h ends =
 pub Ok-line : {T E : Type 0} (r : Result T E) (w : Word) (B : Form Word) (old begun middle new : List ℕ) → begun ≡ old ++ w → AddsWords B begun middle → OnOk r (new ≡ middle ++ 10 ∷ []) → OnOk r (AddsLines (line (word w then B)) old new)
 Ok-line r w B old begun middle new begins h = on_ok_weaker r (λ ends. Adds-line (word w) B w old begun middle new (λ other same. same) begins h ends)
 
--- ---- values one behind another, each by a step
+-- ---- values one after another, each by a step
 
 pub Adds-each : {X V : Type 0} {show : X → List ℕ} (F : V → Form X) (Step : List ℕ → V → List ℕ → Type 0) (vs : List V) (old new : List ℕ) → ((before : List ℕ) (v : V) (after : List ℕ) → Step before v after → Adds show (F v) before after) → FoldsTo Step old vs new → Adds show (each F vs) old new
 Adds-each {X} {V} {show} F Step [] old new step h = subst (λ (end : List ℕ). Adds show (each F []) old end) h (Adds-nothing old)

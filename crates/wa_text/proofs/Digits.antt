@@ -1,4 +1,4 @@
--- The hexadecimal digits of bytes, one more byte behind those that are written.
+-- The hexadecimal digits of bytes, one more byte after those that are written.
 use Rattle.std.proofs.Common.{◌≡◌, ℕ, ◌+◌, ◌/◌, ◌%◌, List, [], ◌∷◌, ◌++◌, drop, refl, sym, ap, ◌∙◌, append_assoc}
 use Rattle.std.specs.Prelude.{slice_index}
 use Rattle.std.proofs.lemmas.List.{append-nil}

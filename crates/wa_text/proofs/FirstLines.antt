@@ -33,7 +33,7 @@ same_line n (b ∷ bytes) (o ∷ other) x h is =
     let more = same_line n bytes other x h.1 (ap (λ (t : Bool). first_lines (cond t n (suc n)) other) (sym none) ∙ rest) in
     (more.0, ap (λ (c : ℕ). c ∷ other) first ∙ ap (λ (s : List ℕ). b ∷ s) more.1, more.2)
 
--- the first line of a text, and those behind it
+-- the first line of a text, and those after it
 first_line_of : (n : ℕ) (bytes more : List ℕ) → IsUnbroken bytes → first_lines (suc n) (bytes ++ 10 ∷ more) ≡ bytes ++ 10 ∷ first_lines n more
 first_line_of n [] more h = refl
 first_line_of n (b ∷ bytes) more h =
@@ -83,12 +83,12 @@ rows_same rest tail same = by_feed (cut_at_feed tail)
         ap (λ (t : List ℕ). take 1 (rows t)) k.1 ∙ ap (take 1) (rows_line h.0 k.0 h.3)
         ∙ sym (ap (λ (t : List ℕ). take 1 (rows t)) h.2 ∙ ap (take 1) (rows_line h.0 h.1 h.3))
 
--- ---- lines in front
+-- ---- lines at the beginning
 
 text_line : (w : Line) (front : List Line) (tail : List ℕ) → text_of (w ∷ front) ++ tail ≡ join_with_byte 32 w ++ 10 ∷ (text_of front ++ tail)
 text_line w front tail = append_assoc (line_text w) (text_of front) tail ∙ split_line w (text_of front ++ tail)
 
--- texts that are the same up to the line behind these
+-- texts that are the same up to the line after these
 agree : (front : List Line) → AreLines front → (tail other : List ℕ) → first_lines (suc (length front)) other ≡ first_lines (suc (length front)) (text_of front ++ tail) → (rest : List ℕ) × (other ≡ text_of front ++ rest) × (first_lines 1 rest ≡ first_lines 1 tail)
 agree [] are tail other same = (other, refl, same)
 agree (w ∷ front) are tail other same =
@@ -151,7 +151,7 @@ feeds_of [] are = refl
 feeds_of (w ∷ front) are =
     ap (count_by (λ b. b == 10)) (split_line w (text_of front)) ∙ one_feed (join_with_byte 32 w) (text_of front) (unbroken_line w are.0) ∙ ap suc (feeds_of front are.1)
 
--- the number of the line at a place
+-- the number of the line at a position
 number_of : (front : List Line) (text : List ℕ) (at : ℕ) → Passed front text at → count_by (λ b. b == 10) (take at text) + 1 ≡ suc (length front)
 number_of front text at h =
     let text_is : take at text ≡ text_of front = append_cancel_right (take at text) (text_of front) (drop at text) (take-append-drop at text ∙ h.is) in

@@ -1,4 +1,4 @@
--- Lines of forms one behind another, from place to place of a text.
+-- Lines of forms one after another, from position to position of a text.
 use Rattle.std.proofs.Common.{◌≡◌, ◌≢◌, ℕ, zero, suc, ◌+◌, ◌≤◌, Bool, false, List, [], ◌∷◌, ◌++◌, length, take, drop, map, Option, refl, sym, ap, subst, ◌∙◌, append_assoc, arith}
 use Rattle.std.specs.Prelude.{◌==◌, codes, cond}
 use Rattle.std.specs.List.{All, AllByRecursion, count_by, join_with_byte, slice_split}
@@ -33,7 +33,7 @@ lines_append : (xs ys : List Line) → AreLines xs → AreLines ys → AreLines 
 lines_append [] ys h k = k
 lines_append (x ∷ xs) ys h k = (h.0, lines_append xs ys h.1 k)
 
--- the one form up to a place, and behind it the other
+-- the one form up to a position, and after it the other
 pub join : {A B : Form Line} {text : List ℕ} {at mid end : ℕ} → Spelled A text at mid → Spelled B text mid end → Spelled (A then B) text at end
 join {text = text} {end = end} h k = record {
   lines = h.lines ++ k.lines;
@@ -46,14 +46,14 @@ join {text = text} {end = end} h k = record {
   rows_are = h.rows_are ∙ ap (λ (rest : List Line). h.lines ++ rest) k.rows_are ∙ sym (append_assoc h.lines k.lines (rows_at text end));
 }
 
--- one more value behind others
+-- one more value after others
 pub each_more : {X V : Type 0} (F : V → Form X) (vs : List V) (v : V) (front back : List X) → each F vs front → F v back → each F (vs ++ v ∷ []) (front ++ back)
 each_more F [] v front back h k =
     (back, [], ap (λ (xs : _). xs ++ back) h ∙ sym (append-nil back), k, refl)
 each_more F (w ∷ vs) v front back h k =
     (h.0, h.1 ++ back, ap (λ (xs : _). xs ++ back) h.2 ∙ append_assoc h.0 h.1 back, h.3, each_more F vs v h.1 back h.4 k)
 
--- one more value of one item, in front of the items that are left
+-- one more value of one item, before the items that are left
 pub front_more : {X V : Type 0} (F : V → Form X) (vs : List V) (v : V) (x : X) (all rest more : List X) → (each F vs then exactly rest) all → rest ≡ x ∷ more → F v (x ∷ []) → (each F (vs ++ v ∷ []) then exactly more) all
 front_more F vs v x all rest more h is k =
     (h.0 ++ x ∷ [], more, h.2 ∙ ap (λ (back : List _). h.0 ++ back) (h.4 ∙ is) ∙ sym (append_assoc h.0 (x ∷ []) more), each_more F vs v h.0 (x ∷ []) h.3 k, refl)
@@ -85,7 +85,7 @@ rows_line bytes rest h =
     ap (λ (n : ℕ). take n (map words_of (slice_split (λ b. b == 10) (bytes ++ 10 ∷ rest)))) (one_feed bytes rest h)
     ∙ ap (λ (parts : List (List ℕ)). take (suc (count_by (λ b. b == 10) rest)) (map words_of parts)) (slice_split_at (λ b. b == 10) bytes 10 rest (no_feed bytes h) refl)
 
--- the line at a place, by its words
+-- the line at a position, by its words
 pub line_here : (text : List ℕ) (at end : ℕ) (bytes : List ℕ) (words : Line) → drop at text ≡ bytes ++ 10 ∷ drop end text → IsUnbroken bytes → words_of bytes ≡ words → Spelled (exactly (words ∷ [])) text at end
 line_here text at end bytes words is unbroken same =
     let following = drop end text in
@@ -130,7 +130,7 @@ holding : (n : ℕ) (i : Instr) (layer : Instr-F Instr) (lines : List Line) → 
 unfolding instr
 holding n i layer lines is h = subst (λ (l : Instr-F Instr). instr_over (each (instr n)) l lines) (sym is) h
 
--- one that holds others, by its first line and those behind it
+-- one that holds others, by its first line and those after it
 begun_instr : (k : BlockKind) (t : Option ValTy) (n : ℕ) (i : Instr) (lines : List Line) → (begin (kind_word k) t then following_first k t (each (instr n)) i) lines → instr (suc n) i lines
 begun_instr kind.Block t n i lines h =
     holding n i (Instr-F.Block t h.4.0) lines (layer_of i (variant.Block t h.4.0) (Instr-F.Block t h.4.0) h.4.1 (variant.rolls-Block t h.4.0)) (h.0, h.1, h.2, h.3, h.4.2)
@@ -158,7 +158,7 @@ held_If k t Body i body branch {text} {at} {mid} {last} made is h e =
     let held : Spelled (following_first kind.If t Body i) text at last = weaker (λ lines s. (body, branch, made, s)) (join h e) in
     subst (λ (b : BlockKind). Spelled (following_first b t Body i) text at last) (sym is) held
 
--- a branch behind its `else`
+-- a branch after its `else`
 pub with_else : (Body : List Instr → Form Line) (branch : List Instr) {text : List ℕ} {at mid after last : ℕ} → branch ≢ [] → Spelled (line (word (codes "else"))) text at mid → Spelled (Body branch) text mid after → Spelled end text after last → Spelled (else_end Body branch) text at last
 with_else Body [] some h k e = absurd (some refl)
 with_else Body (i ∷ is) some h k e = join h (join k e)

@@ -1,4 +1,4 @@
--- Which words stand for no instruction.
+-- Which words denote no instruction.
 use Rattle.std.proofs.Common.{◌≡◌, ◌≢◌, ℕ, ◌≤◌, List, [], ◌∷◌, ◌++◌, length, Option, Some, refl, sym, ap, subst, ◌∙◌, arith, length-append}
 use Rattle.std.proofs.lemmas.List.{same_from_push}
 use Rattle.std.specs.Prelude.{MatchResult, Result, Ok, Err, codes, decimal}
@@ -147,7 +147,7 @@ index_of (Instr-F.GlobalGet x) name value table constant h = (x, h.1)
 index_of (Instr-F.GlobalSet x) name value table constant h = (x, h.1)
 index_of (Instr-F.I32Const n) name value table constant h = (n, h.1)
 
--- the word of no instruction with a number
+-- the word of no instruction with an index
 pub no_index : (layer : Instr-F Instr) (name value : Word) → name ≢ codes "br_table" → name ≢ codes "i64.const" → name ≢ codes "br" → name ≢ codes "br_if" → name ≢ codes "call" → name ≢ codes "call_indirect" → name ≢ codes "local.get" → name ≢ codes "local.set" → name ≢ codes "local.tee" → name ≢ codes "global.get" → name ≢ codes "global.set" → name ≢ codes "i32.const" → Simple layer name (value ∷ []) → ⊥
 no_index (Instr-F.Plain op) name value table constant not_Br not_BrIf not_Call not_CallIndirect not_LocalGet not_LocalSet not_LocalTee not_GlobalGet not_GlobalSet not_I32Const h = cc
 no_index (Instr-F.Memory op align offset) name value table constant not_Br not_BrIf not_Call not_CallIndirect not_LocalGet not_LocalSet not_LocalTee not_GlobalGet not_GlobalSet not_I32Const h = not_none u32_one offset (first_of u32_one align value [] h.1).1
@@ -204,7 +204,7 @@ access_of (Instr-F.GlobalGet x) name align offset table h = absurd (not_two u32_
 access_of (Instr-F.GlobalSet x) name align offset table h = absurd (not_two u32_one x align offset [] h.1)
 access_of (Instr-F.I32Const n) name align offset table h = absurd (not_two u32_one n align offset [] h.1)
 
--- labels, and the default behind them
+-- labels, and the default after them
 pub labels_of : (layer : Instr-F Instr) (labels : Line) (default : Word) → Simple layer (codes "br_table") (labels ++ default ∷ []) → (ls : List ℕ) × (l : ℕ) × each u32 ls labels × u32 l (default ∷ [])
 labels_of (Instr-F.Plain op) labels default h = absurd (omega (arith, ap length h.1, length-append labels (default ∷ [])))
 labels_of (Instr-F.Memory op align offset) labels default h = absurd (not_access op h.0)
@@ -356,6 +356,6 @@ no_labels (Instr-F.GlobalGet x) h = not_none u32_one x h.1
 no_labels (Instr-F.GlobalSet x) h = not_none u32_one x h.1
 no_labels (Instr-F.I32Const n) h = not_none u32_one n h.1
 
--- a known name, and the words behind it
+-- a known name, and the words after it
 pub whole_as : (i : Instr) (name other : Word) (rest : Line) → name ≡ other → whole i (name ∷ rest) → Simple (out-Instr i) other rest
 whole_as i name other rest is h = simple i other rest (subst (λ (w : Word). whole i (w ∷ rest)) is h)

@@ -1,4 +1,4 @@
--- Which words stand for no item.
+-- Which words denote no item.
 use Rattle.std.proofs.Common.{◌≡◌, ◌≢◌, ℕ, ◌≤◌, List, [], ◌∷◌, ◌++◌, length, refl, sym, ap, subst, ◌∙◌, arith}
 use Rattle.std.specs.Prelude.{codes}
 use Rattle.wa_syntax.specs.declared.module.DataSegment.{DataSegment}
@@ -35,7 +35,7 @@ global_two t s h =
 init_two : IsTwo init
 init_two i s h = (init_kind i, init_value i, init_words i s h)
 
--- the first two words, and those behind them
+-- the first two words, and those after them
 first_two : {V : Type 0} {F : V → Form Word} {G : Form Word} → IsTwo F → (v : V) (a b : Word) (s : List Word) → (F v then G) (a ∷ b ∷ s) → F v (a ∷ b ∷ []) × G s
 first_two {F = F} {G = G} two v a b s h =
     let c = two v h.0 h.3 in

@@ -195,7 +195,7 @@ refused_held k t n r = refused_as (λ i lines same h.
     let body = body_of k t (each (instr n)) i h.0 h.1 h.3 in
     (body.0, subst (each (instr n) body.0 then halts) (sym h.2) body.1)) r
 
--- no `end` stands behind instructions
+-- no `end` comes after instructions
 pub refused_end : (n : ℕ) (body : List Instr) {text : List ℕ} {from mid : ℕ} → Spelled (each (instr n) body) text from mid → halts (rows_at text mid) → begins_not (codes "end" ∷ []) (rows_at text mid) → Refused (pair (each (instr n)) the_end) anything text from mid
 refused_end n body {text} {from} {mid} h stops none =
     refused_behind body (one_sequence n) halts-local h stops (λ u s x e follows. halts_end s x e)
@@ -228,7 +228,7 @@ refused_If k t n body {text} {from} {mid} {at} is h stops r =
     held : Refused (following_first kind.If t (each (instr n))) anything text from at
     held = refused_as (λ i lines same h. ((h.3.0, h.3.1), (h.0, h.1, h.2, h.3.3, tt))) both
 
--- ---- a branch behind its `else`
+-- ---- a branch after its `else`
 
 pub refused_else_end : (n : ℕ) {text : List ℕ} {from : ℕ} → begins_not (codes "end" ∷ []) (rows_at text from) → begins_not (codes "else" ∷ []) (rows_at text from) → Refused (else_end (each (instr n))) anything text from from
 refused_else_end n {text} {from} no_end no_else = refused_here (λ branch lines same h.

@@ -1,4 +1,4 @@
--- Which lines are those of no module: the parts of a module, one behind another.
+-- Which lines are those of no module: the parts of a module, one after another.
 use Rattle.std.proofs.Common.{◌≡◌, ◌≢◌, ℕ, suc, ◌≤◌, List, [], ◌∷◌, ◌++◌, take, Option, None, Some, refl, sym, ap, subst, ◌∙◌, append_assoc, arith}
 use Rattle.std.proofs.lemmas.List.{append-nil}
 use Rattle.std.specs.Prelude.{IfNone, codes}
@@ -43,7 +43,7 @@ func_begins f s x h =
     let words = begun h.3.0 h.3.1 in
     (words.0, h.1 ++ x, ap (λ (l : List Line). l ++ x) (h.2 ∙ ap (λ (l : List Line). l ++ h.1) (h.3.2 ∙ ap (λ (row : Line). row ∷ []) words.1)))
 
--- values of a part, and those of later parts behind them
+-- values of a part, and those of later parts after them
 pass_part : {V U : Type 0} {F : V → Form Line} {B : U → Form Line} {text : List ℕ} {from mid at : ℕ} (k : ℕ) (w : Word) → or_none (code_in rank_table w) ≡ k → IsPart k F → ((v : V) (s x : List Line) → F v s → begins_with w (s ++ x)) → Keeps (suc k) B → suc k ≤ 11 → (vs : List V) → Spelled (each F vs) text from mid → begins_otherwise w (rows_at text mid) → Refused B nothing text mid at → Refused (pair (each F) B) nothing text from at
 pass_part k w is part starts keeps most vs h stops r =
     refused_behind vs (one-each part.one (λ v s x g other. other (starts v s x g))) (begins_otherwise-local w) h stops (λ u s x g ends. later w k is (s ++ x) (keeps.keeps u s x g (at_end (suc k) x most ends))) r
@@ -190,7 +190,7 @@ none_begins w lines none h = let no : [] ≡ (w ∷ h.0) ∷ h.1 = sym none ∙ 
 pub fail_segments : {text : List ℕ} {from at : ℕ} → Refused (each (λ (v : DataSegment). line (listing.segment v))) (begins_otherwise (codes "data")) text from at → Refused from_segments nothing text from at
 fail_segments r = refused_as (λ v lines same h. (v, (h.0, h.1, h.2, h.3, none_begins (codes "data") h.1 h.4))) r
 
--- lines behind the last part
+-- lines after the last part
 pub pass_segments : (vs : List DataSegment) {text : List ℕ} {from at : ℕ} → Spelled (each (λ (v : DataSegment). line (listing.segment v)) vs) text from at → begins_otherwise (codes "data") (rows_at text at) → rows_at text at ≢ [] → Refused from_segments nothing text from at
 pass_segments vs {text} {from} {at} h stops some = refused_as (λ v lines same g. ((v, tt), (g.0, g.1, g.2, (g.0, [], sym (append-nil g.0), g.3, refl), g.4))) both
   where

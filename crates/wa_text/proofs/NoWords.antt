@@ -1,4 +1,4 @@
--- Which words stand for no value of a production.
+-- Which words denote no value of a production.
 use Rattle.std.proofs.Common.{◌≡◌, ◌≢◌, ℕ, zero, suc, ◌^◌, ◌<◌, ◌≤◌, ◌⊎◌, inl, inr, Bool, true, false, List, [], ◌∷◌, ◌++◌, length, get_or, Option, None, Some, refl, sym, ap, subst, ◌∙◌, arith}
 use Rattle.std.proofs.lemmas.Fmt.{IsAscii-decimal, decimal_injective}
 use Rattle.std.proofs.lemmas.List.{append-nil, get_or-map, length-map}
@@ -22,7 +22,7 @@ use Rattle.wa_text.specs.Reading.{Refuses, begins_untyped, texts}
 use Rattle.wa_text.specs.Words.{Word, bytes, digits, mut, name, u32, u64, val, word}
 use Rattle.wa_text.proofs.OneItem.{IsOne, mut_is, mut_word, one-bytes, one-each, one-val, same_back, val_is, val_word, whole}
 
--- ---- words one behind another
+-- ---- words one after another
 
 -- a form of one word
 abbrev pub IsWord1 : {V : Type 0} → (V → Form Word) → Type 0
@@ -46,7 +46,7 @@ val_one t s h = (val_word t, val_is t s h)
 pub mut_one : IsWord1 mut
 mut_one t s h = (mut_word t, mut_is t s h)
 
--- the first word, and those behind it
+-- the first word, and those after it
 pub first_of : {V : Type 0} {F : V → Form Word} {G : Form Word} → IsWord1 F → (v : V) (w : Word) (s : List Word) → (F v then G) (w ∷ s) → F v (w ∷ []) × G s
 first_of {F = F} {G = G} one v w s h =
     let c = one v h.0 h.3 in
@@ -67,7 +67,7 @@ not_none one v h = let c = one v [] h in let rows : [] ≡ c.0 ∷ [] = c.1 in c
 pub not_two : {V : Type 0} {F : V → Form Word} → IsWord1 F → (v : V) (a b : Word) (s : List Word) → F v (a ∷ b ∷ s) → ⊥
 not_two one v a b s h = let c = one v (a ∷ b ∷ s) h in let rows : a ∷ b ∷ s ≡ c.0 ∷ [] = c.1 in cc
 
--- a known word in front
+-- a known word at the beginning
 pub behind_word : {w : Word} {G : Form Word} (first : Word) (s : List Word) → (word w then G) (first ∷ s) → (first ≡ w) × G s
 behind_word {w} {G} first s h =
     let rows : first ∷ s ≡ w ∷ h.1 = h.2 ∙ ap (λ (front : List Word). front ++ h.1) h.3 in
@@ -180,7 +180,7 @@ pub limits_length : (min : ℕ) (max : Option ℕ) (s : List Word) → limits_of
 limits_length min None s h = inl (ap length h.1)
 limits_length min (Some max) s h = inr (ap length (h.2 ∙ ap (λ (front : List Word). front ++ h.1) h.3.1 ∙ ap (λ (back : List Word). decimal min ∷ back) h.4.1))
 
--- ---- rows of numbers
+-- ---- lists of numbers
 
 pub each_word : {V : Type 0} {F : V → Form Word} → IsWord1 F → (vs : List V) (s : List Word) (i : ℕ) (d : Word) → i < length s → each F vs s → (v : V) × F v (get_or s i d ∷ [])
 each_word one [] s i d below h = absurd (omega (arith, ap length h))

@@ -96,7 +96,7 @@ one-single {X} {F = F} K is whole_F = record {
       (fronts, whole_F.one v w a h (subst (F w) (sym fronts) k));
 }
 
--- a known item in front
+-- a known item at the beginning
 abbrev first_item : {X : Type 0} → X → Unit {0} → Form X
 first_item c u s = s ≡ c ∷ []
 
@@ -117,7 +117,7 @@ one-end {X} {F = F} whole_F = record {
       (fronts, whole_F.one v w a h (subst (F w) (sym fronts) k));
 }
 
--- values one behind another, where none of them can begin what follows
+-- values one after another, where none of them can begin what follows
 pub one-each : {X V : Type 0} {F : V → Form X} {K : Form X} → IsOne any F → ((v : V) (s x : List X) → F v s → K (s ++ x) → ⊥) → IsOne K (each F)
 one-each {X} {V} {F = F} {K = K} one_F never = record { one = go }
   where
@@ -155,7 +155,7 @@ one-line {G = G} whole_G = one-single any (λ v s h. (h.0, h.2)) (record {
 
 -- ---- words
 
--- two words that a test tells apart
+-- two words that a test separates
 pub differ : (v w : Word) → bytes_eq v w ≡ false → v ≡ w → ⊥
 differ v w not_same same = false≢true (sym not_same ∙ (bytes_eq-Decides v w).1 same)
 

@@ -1,4 +1,4 @@
--- No text is the listing of two modules: its lines are one row, since each of them has a word.
+-- No text is the listing of two modules: its lines are one list, since each of them has a word.
 use Rattle.std.proofs.Common.{◌≡◌, ◌≢◌, ℕ, zero, suc, false, List, [], ◌∷◌, ◌++◌, Option, None, Some, refl, sym, ap, subst, ◌∙◌, append_assoc, arith}
 use Rattle.std.proofs.lemmas.Bool.{ne_eqb}
 use Rattle.std.proofs.lemmas.List.Elements.{All-from_recursion}
@@ -123,7 +123,7 @@ unbroken_line [] h = tt
 unbroken_line (w ∷ []) h = unbroken_word w h.0
 unbroken_line (w ∷ v ∷ words) h = both_pass (λ b. b ≢ 10) w (32 ∷ join_with_byte 32 (v ∷ words)) (unbroken_word w h.0) (blank_is_none, unbroken_line (v ∷ words) h.1)
 
--- the first line feed is at one place
+-- the first line feed is at one position
 one_feed : (a b x y : List ℕ) → IsUnbroken a → IsUnbroken b → a ++ 10 ∷ x ≡ b ++ 10 ∷ y → (a ≡ b) × (x ≡ y)
 one_feed [] [] x y h k same = (refl, cc)
 one_feed [] (c ∷ b) x y h k same = let first : c ≡ 10 = cc in absurd (k.0 first)
@@ -139,7 +139,7 @@ one_line [] w some other h k same = absurd some
 one_line (v ∷ vs) [] some other h k same = absurd other
 one_line (v ∷ vs) (w ∷ ws) some other h k same = sym (cut_again v vs h.0 h.1) ∙ ap words_of same ∙ cut_again w ws k.0 k.1
 
--- a line in front, with its line feed taken out of it
+-- a line at the beginning, with its line feed taken out of it
 pub split_line : (words : Line) (more : List ℕ) → line_text words ++ more ≡ join_with_byte 32 words ++ 10 ∷ more
 split_line words more = append_assoc (join_with_byte 32 words) (10 ∷ []) more
 

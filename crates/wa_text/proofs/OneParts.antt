@@ -1,4 +1,4 @@
--- No lines are those of two modules: the parts of a module stand in one order, each known by its first word.
+-- No lines are those of two modules: the parts of a module are in one order, each known by its first word.
 use Rattle.std.proofs.Common.{◌≡◌, ℕ, suc, ◌≤◌, List, [], ◌∷◌, ◌++◌, Option, None, Some, refl, sym, ap, subst, ◌∙◌, arith, append_assoc}
 use Rattle.std.specs.Prelude.{codes}
 use Rattle.wa_syntax.specs.declared.module.ElemSegment.{ElemSegment}
@@ -35,11 +35,11 @@ rank [] = 11
 rank ([] ∷ more) = 11
 rank ((first ∷ rest) ∷ more) = or_none (code_in rank_table first)
 
--- lines of a part with this number or a later one
+-- lines of a part with this index or a later one
 abbrev pub From : ℕ → Form Line
 From k s = k ≤ rank s
 
--- values whose lines begin a part with this number
+-- values whose lines begin a part with this index
 pub record IsPart {V : Type 0} (k : ℕ) (F : V → Form Line) : Type 0 where
   pub one : IsOne any F
   pub begins : (v : V) (s x : List Line) → F v s → rank (s ++ x) ≡ k
@@ -48,7 +48,7 @@ rank_first : (w : Word) (rest : Line) (k : ℕ) (s x : List Line) → s ≡ (w �
 unfolding rank
 rank_first w rest k s x lines is = ap rank (ap (λ (front : List Line). front ++ x) lines) ∙ is
 
--- values of a part and of nothing else, where they are in front of later parts
+-- values of a part and of nothing else, where they are before later parts
 pub record Keeps {V : Type 0} (k : ℕ) (F : V → Form Line) : Type 0 where
   pub keeps : (v : V) (s x : List Line) → F v s → From k x → From k (s ++ x)
 
@@ -153,7 +153,7 @@ keeps_start j least = record { keeps = go }
     go None s x h follows = subst (From j) (ap (λ (front : List Line). front ++ x) (sym h)) follows
     go (Some n) s x h follows = omega (arith, start_rank n s x h)
 
--- a part and those behind it
+-- a part and those after it
 abbrev pub ElemsOn : Type 0
 ElemsOn = List ElemSegment × List DataSegment
 
@@ -238,7 +238,7 @@ keeps_funcs j least = keeps_pair (keeps_each j 3 least funcs_part) (keeps_tables
 pub keeps_imports : (j : ℕ) → j ≤ 2 → Keeps j from_imports
 keeps_imports j least = keeps_pair (keeps_each j 2 least imports_part) (keeps_funcs j (omega arith))
 
--- behind the last part nothing follows
+-- after the last part nothing follows
 pub at_end : (j : ℕ) (x : List Line) → j ≤ 11 → x ≡ [] → From j x
 unfolding rank
 at_end j x least ends = subst (From j) (sym ends) least

@@ -1,4 +1,4 @@
--- The words at the places of a line, and the rows at those of a table.
+-- The words of a line by their indices, and the rows of a table by theirs.
 use Rattle.std.proofs.Common.{◌≡◌, ◌≢◌, ℕ, zero, suc, ◌+◌, ◌-◌, ◌<◌, ◌≤◌, Bool, true, false, List, [], ◌∷◌, ◌++◌, length, get_or, take, drop, map, Option, None, Some, refl, sym, ap, subst, ◌∙◌, arith}
 use Rattle.std.proofs.lemmas.Bool.{eqb-true, ne_eqb}
 use Rattle.std.proofs.lemmas.Bool.Decides.{nat_tests}
@@ -14,7 +14,7 @@ use Rattle.wa_text.specs.Words.{Word, bytes}
 
 -- ---- words
 
--- what stands for the word at a place behind a row
+-- what denotes the word at an index after some words
 abbrev pub no_word : Bor (List ℕ)
 no_word = record { ref_ptr = (0, 0); now = [] }
 
@@ -49,7 +49,7 @@ four_words (t ∷ u ∷ v ∷ []) d e f g long = absurd (omega arith)
 four_words (t ∷ u ∷ v ∷ w ∷ []) d e f g long = refl
 four_words (t ∷ u ∷ v ∷ w ∷ x ∷ words) d e f g long = absurd (omega arith)
 
--- the last word, and those in front of it
+-- the last word, and those before it
 pub last_word : (words : List (Bor (List ℕ))) (d : Bor (List ℕ)) → 1 ≤ length words → texts words ≡ texts (take (length words - 1) words) ++ (get_or words (length words - 1) d).now ∷ []
 last_word words d long =
     let last = length words - 1 in
@@ -72,7 +72,7 @@ spelled_bytes (b ∷ bs) w some are is = (are, ap (λ (v : Word). v ∷ []) is)
 abbrev pub shown : ℕ × Bor (List ℕ) → ℕ × Word
 shown row = (row.0, row.1.now)
 
--- the name of an opcode whose row is at a place
+-- the name of an opcode whose row is at an index
 pub name_here : (table : List (ℕ × Bor (List ℕ))) (i opcode : ℕ) (d : ℕ × Bor (List ℕ)) → i < length table → (get_or table i d).0 ≡ opcode → name_in (map shown (drop i table)) opcode ≡ Some ((get_or table i d).1.now)
 name_here [] i opcode d below is = absurd (omega arith)
 name_here (row ∷ table) zero opcode d below is =
@@ -98,7 +98,7 @@ shown_at [] i d = refl
 shown_at (row ∷ table) zero d = refl
 shown_at (row ∷ table) (suc i) d = shown_at table i d
 
--- the row at a place, by its name
+-- the row at an index, by its name
 pub row_shown : (table : List (ℕ × Bor (List ℕ))) (i : ℕ) (d : ℕ × Bor (List ℕ)) (name : Word) → i < length table → (get_or table i d).1.now ≡ name → Contains (map shown table) ((get_or table i d).0, name)
 row_shown table i d name below is =
     let rows = map shown table in

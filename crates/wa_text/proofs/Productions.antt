@@ -102,11 +102,11 @@ each_append F (v ∷ vs) ws xs h =
     let rest = each_append F vs ws h.1 h.4 in
     (h.0 ++ rest.0, rest.1, h.2 ∙ ap (λ back. h.0 ++ back) rest.2 ∙ sym (append_assoc h.0 rest.0 rest.1), (h.0, rest.0, refl, h.3, rest.3), rest.4)
 
--- the types of a run, and behind it those of others
+-- the types of a run, and after it those of others
 pub each_run : (run : LocalRun) (runs : List LocalRun) (words : List Word) → each val (types_of_runs (run ∷ runs)) words → (each val (replicate run.count run.ty) then each val (types_of_runs runs)) words
 each_run run runs words h = each_append val (replicate run.count run.ty) (types_of_runs runs) words h
 
--- runs as the types that they stand for
+-- runs as the types that they denote
 runs_apart : (runs : List LocalRun) (words : List Word) → each val (types_of_runs runs) words → each (λ run. each val (replicate run.count run.ty)) runs words
 runs_apart [] words h = h
 runs_apart (run ∷ runs) words h =

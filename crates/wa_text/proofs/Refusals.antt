@@ -1,4 +1,4 @@
--- What is refused at a place of a text, by the grammar of forms.
+-- What is refused at a position of a text, by the grammar of forms.
 use Rattle.std.proofs.Common.{◌≡◌, ◌≢◌, ℕ, ◌+◌, ◌⊎◌, inl, inr, Bool, false, List, [], ◌∷◌, ◌++◌, take, drop, map, refl, sym, ap, subst, ◌∙◌, append_assoc, arith}
 use Rattle.std.proofs.lemmas.Bool.{ne_eqb}
 use Rattle.std.proofs.lemmas.List.Sums.{sum_by-cons}
@@ -20,7 +20,7 @@ use Rattle.wa_text.proofs.OneItem.{IsOne, pair, same_back}
 
 -- ---- faults
 
--- words that stand for a value of the one form stand for one of the other
+-- words that denote a value of the one form denote one of the other
 pub refuses_as : {U V : Type 0} (P : U → Form Word) (F : V → Form Word) (words other : Line) (e : LineFault) → ((v : V) → F v words → (u : U) × P u other) → Refuses P other e → Refuses F words e
 refuses_as P F words other line_fault.Wrong to h = λ v k. let found = to v k in h found.0 found.1
 refuses_as P F words other line_fault.NoMemory to h = tt
@@ -72,12 +72,12 @@ pub none_first : (lines other : List Line) → lines ≡ [] → take 1 lines ≡
 none_first lines [] is same = refl
 none_first lines (o ∷ other) is same = let no : [] ≡ o ∷ [] = sym (ap (take 1) is) ∙ same in let none : ⊥ = cc in absurd none
 
--- the lines that are passed, and those behind them, begin as the text does
+-- the lines that are passed, and those after them, begin as the text does
 first_again : (front more all following : List Line) → all ≡ front ++ following → take 1 more ≡ take 1 following → take 1 (front ++ more) ≡ take 1 all
 first_again [] more all following is same = same ∙ ap (take 1) (sym is)
 first_again (f ∷ front) more all following is same = ap (take 1) (sym is)
 
--- ---- places
+-- ---- positions
 
 pub all_of : {F : Form Line} {text : List ℕ} {from to : ℕ} (h : Spelled F text from to) → Spelled (exactly h.lines) text from to
 all_of h = record { lines = h.lines; spelling = refl; are = h.are; is = h.is; rows_are = h.rows_are }
@@ -85,7 +85,7 @@ all_of h = record { lines = h.lines; spelling = refl; are = h.are; is = h.is; ro
 both_passed : {a b : List Line} {text : List ℕ} {from mid to : ℕ} → Spelled (exactly a) text from mid → Spelled (exactly b) text mid to → Spelled (exactly (a ++ b)) text from to
 both_passed {a} {b} h k = weaker (λ lines s. s.2 ∙ ap (λ (front : List Line). front ++ s.1) s.3 ∙ ap (λ (back : List Line). a ++ back) s.4) (join h k)
 
--- what is refused at the place itself
+-- what is refused at the position itself
 pub refused_here : {V : Type 0} {F : V → Form Line} {K : Form Line} {text : List ℕ} {at : ℕ} → ((v : V) (lines : List Line) → take 1 lines ≡ take 1 (rows_at text at) → (F v then K) lines → ⊥) → Refused F K text at at
 refused_here {text = text} {at = at} none = record { front = []; passed = none_here text at; never = none }
 
@@ -102,7 +102,7 @@ refused_as {text = text} {from = from} {at = at} to r = record {
     behind_passed : {front : List Line} {text : List ℕ} {from at : ℕ} → Spelled (exactly front) text from at → rows_at text from ≡ front ++ rows_at text at
     behind_passed {text = text} {at = at} h = h.rows_are ∙ ap (λ (lines : List Line). lines ++ rows_at text at) h.spelling
 
--- what is refused behind a line
+-- what is refused after a line
 pub refused_behind_line : {U V : Type 0} {B : U → Form Line} {F : V → Form Line} {J K : Form Line} {text : List ℕ} {from mid at : ℕ} (words : Line) → Spelled (exactly (words ∷ [])) text from mid → ((v : V) (more : List Line) → (F v then K) (words ∷ more) → (u : U) × (B u then J) more) → Refused B J text mid at → Refused F K text from at
 refused_behind_line words h to r = record {
   front = words ∷ r.front;
@@ -110,7 +110,7 @@ refused_behind_line words h to r = record {
   never = λ v more same k. let found = to v (r.front ++ more) k in r.never found.0 more same found.1;
 }
 
--- what is refused behind a value that has the one beginning
+-- what is refused after a value that has the one beginning
 pub refused_past : {U V : Type 0} {A : U → Form Line} {B : V → Form Line} {K : Form Line} {text : List ℕ} {from mid at : ℕ} (u : U) (h : Spelled (A u) text from mid) → ((w : U) (v : V) (a b x rest : List Line) → A w a → B v b → K x → take 1 rest ≡ take 1 (rows_at text mid) → a ++ (b ++ x) ≡ h.lines ++ rest → a ≡ h.lines) → Refused B K text mid at → Refused (pair A B) K text from at
 refused_past {text = text} {mid = mid} {at = at} u h cut r = record {
   front = h.lines ++ r.front;
@@ -130,12 +130,12 @@ pub refused_behind : {U V : Type 0} {A : U → Form Line} {B : V → Form Line} 
 refused_behind {text = text} {mid = mid} u one local h follows next r = refused_past u h (λ w v a b x rest is_a is_b ends begins whole.
     (one.one w u a h.lines (b ++ x) rest is_a h.spelling (next v b x is_b ends) (local (rows_at text mid) rest (sym begins) follows) whole).0) r
 
--- what is refused in front of a value
+-- what is refused before a value
 pub refused_front : {U V : Type 0} {A : U → Form Line} {B : V → Form Line} {J K : Form Line} {text : List ℕ} {from at : ℕ} → ((v : V) (s x : List Line) → B v s → K x → J (s ++ x)) → Refused A J text from at → Refused (pair A B) K text from at
 refused_front next r = refused_as (λ v lines same h.
     (v.0, (h.3.0, h.3.1 ++ h.1, h.2 ∙ ap (λ (s : List Line). s ++ h.1) h.3.2 ∙ append_assoc h.3.0 h.3.1 h.1, h.3.3, next v.1 h.3.1 h.1 h.3.4 h.4))) r
 
--- ---- values one behind another
+-- ---- values one after another
 
 -- a value's lines are no others' beginning
 pub record IsCut {V : Type 0} (F : V → Form Line) : Type 0 where
@@ -193,7 +193,7 @@ no_line text at h = ap (λ (n : ℕ). take n (map words_of (slice_split (λ b. b
         let none : 0 + count_by (λ c. c == 10) bs ≡ 0 = omega (arith, more) in
         sum_by-cons (λ c. cond (c == 10) 1 0) b bs ∙ ap (λ (t : Bool). cond t 1 0 + count_by (λ c. c == 10) bs) (ne_eqb b 10 k.0) ∙ none
 
--- the line at a place
+-- the line at a position
 row_here : (text : List ℕ) (at mid : ℕ) (bytes : List ℕ) → drop at text ≡ bytes ++ 10 ∷ drop mid text → IsUnbroken bytes → rows_at text at ≡ words_of bytes ∷ rows_at text mid
 row_here text at mid bytes is h = ap rows is ∙ rows_line bytes (drop mid text) h
 
@@ -231,13 +231,13 @@ row_otherwise text at mid bytes first w rest is h words differs g =
     let heads : first ∷ rest ≡ w ∷ g.0 = sym words ∙ same in
     differs cc
 
--- the words behind the first
+-- the words after the first
 pub reads_behind : {V : Type 0} (F : V → Form Word) (w : Word) (words rest : Line) (r : Result V LineFault) → words ≡ w ∷ rest → Reads F rest r → Reads (λ v. word w then F v) words r
 reads_behind F w words rest (Ok v) is h = (w ∷ [], rest, is, refl, h)
 reads_behind F w words rest (Err line_fault.Wrong) is h = λ v k. h v (behind_word w rest (subst (word w then F v) is k)).1
 reads_behind F w words rest (Err line_fault.NoMemory) is h = tt
 
--- a line whose words stand for nothing
+-- a line whose words denote nothing
 pub refused_words : {V : Type 0} (F : V → Form Word) {text : List ℕ} {at mid : ℕ} (words : Line) (e : LineFault) (f : TextFault) → (e ≡ line_fault.Wrong → f ≡ text_fault.Wrong at) → (e ≡ line_fault.NoMemory → f ≡ text_fault.NoMemory) → Spelled (exactly (words ∷ [])) text at mid → Refuses F words e → RefusesAt (λ v. line (F v)) anything text at f
 refused_words {V} F {text} {at} {mid} words line_fault.Wrong f wrong memory h none =
     subst (RefusesAt (λ (v : V). line (F v)) anything text at) (sym (wrong refl))

@@ -24,7 +24,7 @@ each_passes P Q to (x ∷ xs) h =
     let both = both_true (P x) (all_pass P xs) h in
     (to x both.0, each_passes P Q to xs both.1)
 
--- the number of the first row with this name
+-- the opcode in the first row with this name
 unfoldable pub code_in : List (ℕ × List ℕ) → List ℕ → Option ℕ
 code_in [] name = None
 code_in (row ∷ rows) name = if bytes_eq row.1 name then Some row.0 else code_in rows name

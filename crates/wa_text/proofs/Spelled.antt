@@ -129,7 +129,7 @@ importdesc_has (imported.Table t) bytes s = has_then (has_word (codes "table") r
 importdesc_has (imported.Memory t) bytes s = has_then (has_word (codes "memory") refl) (limits_has t s.1 s.4)
 importdesc_has (imported.Global t) bytes s = has_then (has_word (codes "global") refl) (globaltype_has t)
 
--- bytes one behind another, each spelled by itself
+-- bytes one after another, each spelled by itself
 spelled_bytes : (bs bytes : List ℕ) → AreBytes bytes → formats.each formats.byte bs bytes → AreBytes bs
 spelled_bytes bs bytes are s = each_has formats.byte (λ b. b < 256) bs bytes (λ b front is e. (subst AreBytes e is).0) are s
 

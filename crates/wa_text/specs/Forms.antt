@@ -1,4 +1,4 @@
--- How the grammar of listings is written. A form is a test on lists, of the words of a line or of lines: each production
+-- How the grammar of listings is written. A form is a predicate on lists, of the words of a line or of lines: each production
 -- gives the form of its value.
 use Rattle.std.specs.Prelude.{◌≡◌, List, [], ◌∷◌, ◌++◌}
 
@@ -13,12 +13,12 @@ nothing xs = xs ≡ []
 abbrev pub exactly : {X : Type 0} → List X → Form X
 exactly wanted xs = xs ≡ wanted
 
--- the one form, and behind it the other
+-- the one form, and after it the other
 infixr 5 ◌then◌
 abbrev pub ◌then◌ : {X : Type 0} → Form X → Form X → Form X
 ◌then◌ {X} A B xs = (front : List X) × (back : List X) × (xs ≡ front ++ back) × A front × B back
 
--- the values one behind another
+-- the values one after another
 abbrev pub each : {X V : Type 0} → (V → Form X) → List V → Form X
 each F [] = nothing
 each F (v ∷ vs) = F v then each F vs

@@ -7,7 +7,7 @@ use Rattle.wa_text.specs.Forms.{Form, ◌then◌, each, nothing}
 use Rattle.wa_text.specs.Mnemonics.{plain_names, access_names, name_in}
 use Rattle.wa_text.specs.Words.{Word, Line, line, word, u32, u64, val}
 
--- a word and the numbers behind it
+-- a word and the numbers after it
 abbrev pub indexed : Word → ℕ → Form Line
 indexed w x = line (word w then u32 x)
 
@@ -52,12 +52,12 @@ instr_over Body (Instr-F.Memory op align offset) = line (named access_names op t
 instr_over Body (Instr-F.I32Const n) = line (word (codes "i32.const") then u32 n)
 instr_over Body (Instr-F.I64Const n) = line (word (codes "i64.const") then u64 n)
 
--- an instruction in which at most so many blocks are open at a place
+-- an instruction in which at most so many blocks are open at a point
 unfoldable pub instr : ℕ → Instr → Form Line
 instr zero i = instr_over (λ body lines. ⊥) (out-Instr i)
 instr (suc levels) i = instr_over (each (instr levels)) (out-Instr i)
 
--- how many blocks may be open at a place of a function
+-- how many blocks may be open at a point of a function
 abbrev pub max_nesting : ℕ
 max_nesting = 1000
 

@@ -6,7 +6,7 @@ use Rattle.wa_text.specs.Listing.{IsListing}
 use Rattle.wa_text.specs.declared.fault.ListFault.{ListFault}
 use Rattle.wa_text.specs.declared.fault.ListFault.TheVariants as fault
 
--- what is read at the one place ends at the other, behind it and within the text
+-- what is read at the one position ends at the other, after it and within the text
 abbrev pub EndsIn : List ℕ → ℕ → ℕ → Type 0
 EndsIn text at end = (at < end) × (end ≤ length text)
 
@@ -14,7 +14,7 @@ EndsIn text at end = (at < end) × (end ≤ length text)
 abbrev pub ReachesIn : List ℕ → ℕ → ℕ → Type 0
 ReachesIn text at end = (at ≤ end) × (end ≤ length text)
 
--- the number is that of a line of the text, from 1, or of the one behind its last line feed
+-- the number is that of a line of the text, from 1, or of the one after its last line feed
 abbrev pub IsLineOf : List ℕ → ℕ → Type 0
 IsLineOf text line = (1 ≤ line) × (line ≤ count_by (λ byte. byte == 10) text + 1)
 

@@ -1,4 +1,4 @@
--- What it means to read words and lines.
+-- When a call reads words and lines.
 use Rattle.std.specs.Prelude.{◌≡◌, ◌≢◌, ◌⊎◌, ℕ, List, [], ◌∷◌, ◌++◌, ⊤, take, drop, map, codes, ◌==◌}
 use Rattle.std.specs.Prelude.{Option, Result, MatchOption, MatchResult}
 use Rattle.std.specs.List.{AllByRecursion, count_by, slice_split}
@@ -29,11 +29,11 @@ abbrev pub Refuses : {V : Type 0} → (V → Form Word) → Line → LineFault �
 Refuses {V = V} F words line_fault.Wrong = (v : V) → F v words → ⊥
 Refuses F words line_fault.NoMemory = ⊤
 
--- a call reads the value that words stand for: what is read is written so, and `Wrong` says that nothing is
+-- a call reads the value that words denote: what is read is written so, and `Wrong` says that nothing is
 abbrev pub Reads : {V : Type 0} → (V → Form Word) → Line → Result V LineFault → Type 0
 Reads F words result = MatchResult result (λ v. F v words) (Refuses F words)
 
--- the same where memory has no part in it
+-- the same for a call that takes no memory
 abbrev pub Knows : {V : Type 0} → (V → Form Word) → Line → Option V → Type 0
 Knows {V = V} F words result = MatchOption result ((v : V) → F v words → ⊥) (λ v. F v words)
 
@@ -59,11 +59,11 @@ IsUnbroken line = AllByRecursion (λ b. b ≢ 10) line
 abbrev pub rows : List ℕ → List Line
 rows text = take (count_by (λ b. b == 10) text) (map words_of (slice_split (λ b. b == 10) text))
 
--- those from a place on
+-- those from a position on
 abbrev pub rows_at : List ℕ → ℕ → List Line
 rows_at text at = rows (drop at text)
 
--- lines of the form stand from one place of a text up to another
+-- lines of the form go from one position of a text up to another
 pub record Spelled (F : Form Line) (text : List ℕ) (from to : ℕ) : Type 0 where
   pub lines : List Line
   pub spelling : F lines
@@ -71,7 +71,7 @@ pub record Spelled (F : Form Line) (text : List ℕ) (from to : ℕ) : Type 0 wh
   pub is : drop from text ≡ text_of lines ++ drop to text
   pub rows_are : rows_at text from ≡ lines ++ rows_at text to
 
--- a line with this first word, and whatever lines behind it
+-- a line with this first word, and whatever lines after it
 abbrev pub begins_with : Word → Form Line
 begins_with w lines = (words : Line) × (more : List Line) × (lines ≡ (w ∷ words) ∷ more)
 
@@ -83,11 +83,11 @@ begins_otherwise w lines = begins_with w lines → ⊥
 abbrev pub begins_not : Line → Form Line
 begins_not words lines = (more : List Line) → lines ≢ words ∷ more
 
--- an `end` or an `else`, and whatever lines behind it
+-- an `end` or an `else`, and whatever lines after it
 abbrev pub halts : Form Line
 halts lines = (more : List Line) × ((lines ≡ (codes "end" ∷ []) ∷ more) ⊎ (lines ≡ (codes "else" ∷ []) ∷ more))
 
--- what stands from a place on is refused with the line at another: no lines that are those in front of it, and behind
+-- what begins at a position is refused with the line at another: no lines that are those before it, and after
 -- them begin with the same line, or end there as the text does, are of the form, with what may follow
 pub record Refused {V : Type 0} (F : V → Form Line) (Follows : Form Line) (text : List ℕ) (from at : ℕ) : Type 0 where
   pub front : List Line
@@ -105,7 +105,7 @@ kind_word kind.Block = codes "block"
 kind_word kind.Loop = codes "loop"
 kind_word kind.If = codes "if"
 
--- an instruction that is one line, wherever it stands
+-- an instruction that is one line, wherever it is
 abbrev pub whole : Instr → Form Word
 whole i words = (levels : ℕ) → instr levels i (words ∷ [])
 
@@ -118,7 +118,7 @@ abbrev pub first_line : FirstLine → Form Word
 first_line (first.Whole i) words = whole i words
 first_line (first.Begin k t) words = (word (kind_word k) then block_result t) words
 
--- the lines of an instruction behind the one that begins it: what it holds, by the form of its lists, and its end
+-- the lines of an instruction after the one that begins it: what it holds, by the form of its lists, and its end
 abbrev pub following_first : BlockKind → Option ValTy → (List Instr → Form Line) → Instr → Form Line
 following_first kind.Block t Body i lines = (body : List Instr) × (i ≡ variant.Block t body) × (Body body then end) lines
 following_first kind.Loop t Body i lines = (body : List Instr) × (i ≡ variant.Loop t body) × (Body body then end) lines

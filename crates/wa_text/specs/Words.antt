@@ -23,7 +23,7 @@ AreLines lines = AllByRecursion (AllByRecursion IsWord) lines
 
 -- ---- text
 
--- a line: its words, one blank between two, and a line feed behind the last
+-- a line: its words, one blank between two, and a line feed after the last
 abbrev pub line_text : Line → List ℕ
 line_text words = join_with_byte 32 words ++ 10 ∷ []
 

@@ -2,21 +2,21 @@
 use Rattle.std.specs.Prelude.{◌≡◌, ℕ, List, ◌∷◌, ◌++◌, flat_map, Result, Ok}
 use Rattle.std.specs.Global.{Vec}
 use denote.Ref.{Bor, MutBor}
-use Rattle.wa_syntax.specs.declared.no_memory.NoMemory.{NoMemory}
+use Rattle.failure.specs.declared.no_memory.NoMemory.{NoMemory}
 use Rattle.wa_text.specs.Forms.{Form}
 use Rattle.wa_text.specs.Words.{Word, line_text}
 
--- a word behind another: a blank, and the word
+-- a word after another: a blank, and the word
 abbrev pub following : Word → List ℕ
 following w = 32 ∷ w
 
--- the new text is the old one and items behind it, as each is shown: if any items are of the form, these alone are
+-- the new text is the old one and items after it, as each is shown: if any items are of the form, these alone are
 pub record Adds {X : Type 0} (show : X → List ℕ) (F : Form X) (old new : List ℕ) : Type 0 where
   pub items : List X
   pub only : (other : List X) → F other → other ≡ items
   pub is : new ≡ old ++ flat_map show items
 
--- words behind the first of a line
+-- words after the first of a line
 abbrev pub AddsWords : Form Word → List ℕ → List ℕ → Type 0
 AddsWords F old new = Adds following F old new
 

@@ -12,8 +12,8 @@ use thiserror::Error;
 /// Why a text isn't known to be a listing.
 #[derive(Clone, Copy, Debug, PartialEq, Eq, Hash, Error)]
 pub enum ListFault {
-    /// The text is no listing. The number is that of the first line, counted from 1, with which the lines up to it begin
-    /// none, and one more than there are line feeds where the text ends too early.
+    /// The text is no listing. The number is that of the first line, counted from 1, such that the lines up to it begin no
+    /// listing, and one more than there are line feeds where the text ends too early.
     #[error("no listing, by line {0}")]
     NotListing(u32),
     /// Memory has run out.
@@ -21,10 +21,10 @@ pub enum ListFault {
     NoMemory,
 }
 
-/// Why no value is known to be read at a place of a text.
+/// Why no value was read at a position of a text.
 #[derive(Clone, Copy, Debug, PartialEq, Eq, Hash, Error)]
 pub enum TextFault {
-    /// None stands there. The place, in bytes, is that of the first line with which this is clear.
+    /// There is none. The position, in bytes, is that of the first line with which this is clear.
     #[error("no listing, by the line at byte {0}")]
     Wrong(u32),
     /// Memory has run out.
@@ -32,10 +32,10 @@ pub enum TextFault {
     NoMemory,
 }
 
-/// Why words aren't known to be those of a production.
+/// Why the words of a line were not read as a production.
 #[derive(Clone, Copy, Debug, PartialEq, Eq, Hash, Error)]
 pub enum LineFault {
-    /// They are others.
+    /// They are not of the production.
     #[error("no line of a listing")]
     Wrong,
     /// Memory has run out.
@@ -44,7 +44,7 @@ pub enum LineFault {
 }
 
 impl LineFault {
-    /// The fault of the text, by the place of the line.
+    /// The fault of the text, by the position of the line.
     pub fn at(self, place: u32) -> TextFault
         ensures wrong { self ≡ line.Wrong → result ≡ text.Wrong place }
         ensures memory { self ≡ line.NoMemory → result ≡ text.NoMemory }

@@ -125,14 +125,14 @@ fn opcode_in(table: &[(u8, &'static str)], name: &[u8]) -> Option<u8>
     None
 }
 
-/// The name of an instruction that is its opcode alone, or `None` where the opcode is none of one.
+/// The name of an instruction that is its opcode alone, or `None` where the opcode is that of no such instruction.
 pub fn plain_name(opcode: u8) -> Option<&'static str>
     ensures { option_copied result ≡ name_in plain_names opcode }
 {
     name_in(&PLAIN, opcode)
 }
 
-/// The name of a load or a store, or `None` where the opcode is none of one.
+/// The name of a load or a store, or `None` where the opcode is that of neither.
 pub fn access_name(opcode: u8) -> Option<&'static str>
     ensures { option_copied result ≡ name_in access_names opcode }
 {

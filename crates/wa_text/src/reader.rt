@@ -1,4 +1,4 @@
-//! A text into the module of which it is the listing.
+//! From a listing to its module.
 
 mod expression;
 mod instruction;

@@ -1,4 +1,4 @@
-//! A module into its listing.
+//! From a module to its listing.
 
 mod instruction;
 mod items;

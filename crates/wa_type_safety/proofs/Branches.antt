@@ -1,4 +1,4 @@
--- Blocks, branches and returns: what goes on is typed.
+-- Blocks, branches and returns: what continues is typed.
 use Rattle.std.proofs.Common.{◌≡◌, ℕ, zero, suc, Bool, true, false, List, [], ◌∷◌, ◌++◌, length, take, slice_get, Option, Some, None, refl, sym, ap, subst, ◌∙◌, inr}
 use Rattle.std.specs.Prelude.{reverse, if◌then◌else◌}
 use Rattle.std.proofs.lemmas.List.{length-reverse}
@@ -13,7 +13,7 @@ use Rattle.wa_type_safety.proofs.Rules.{Holds, IsSafe}
 
 -- ---- blocks
 
--- the place in a block at place p
+-- a point in a block that begins at point p
 abbrev pub in_block : List ValTy → BodyContext → BodyContext
 in_block wanted p = record p { labels = wanted ∷ p.labels }
 

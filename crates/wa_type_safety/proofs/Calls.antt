@@ -61,7 +61,7 @@ module _ (w : Bool) (r : Setting) (p : BodyContext) (below : List ValTy) where
 
   -- ---- functions of the module's own
 
-  -- the place at which a body begins
+  -- the point at which a body begins
   abbrev body_of : FuncTy → List ValTy → BodyContext
   body_of ty declared = record { locals = ty.params ++ declared; labels = ty.results ∷ []; results = ty.results }
 

@@ -39,7 +39,7 @@ pages-grown xs n =
     ap (λ (k : ℕ). k / page) (length-append xs (replicate (n * page) 0) ∙ ap (λ (k : ℕ). length xs + k) (length-replicate (n * page) 0))
     ∙ add-mul-div_right (length xs) n {z = page} (omega arith)
 
--- the byte at a place, which is 0 past the end
+-- the byte at an address, which is 0 past the end
 byte-index : (xs : List ℕ) (i : ℕ) → All IsByte xs → slice_index xs i < 256
 byte-index [] i h = omega arith
 byte-index (x ∷ xs) zero h = All-head IsByte x xs h

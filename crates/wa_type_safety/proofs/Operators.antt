@@ -42,7 +42,7 @@ not-true : (b : Bool) → (b ≡ true → ⊥) → b ≡ false
 not-true true h = absurd (h refl)
 not-true false h = refl
 
--- the operators on i32, as `operator` tells them from the others
+-- the operators on i32, as `operator` separates them from the others
 abbrev on_i32 : ℕ → Bool
 on_i32 op = is_from_to I32_EQZ I32_GE_U op || is_from_to I32_CLZ I32_ROTR op
 

@@ -1,4 +1,4 @@
--- Instructions that go on behind themselves: what each takes and gives.
+-- Instructions that continue after themselves: what each takes and gives.
 use Rattle.std.proofs.Common.{◌≡◌, ℕ, ◌+◌, ◌-◌, ◌*◌, ◌^◌, ◌≤◌, Bool, true, false, List, ◌∷◌, ◌++◌, replicate, slice_get, slice_range, Option, Some, None, Result, All, refl, sym, ap, subst, ◌∙◌, arith}
 use Rattle.std.specs.Prelude.{◌==◌, ◌/◌, nat_le, if◌then◌else◌, option_map, reverse, length}
 use Rattle.std.specs.Int.{byte_len, to_le_bytes}

@@ -51,7 +51,7 @@ Leads-pure Post a h = record { holds = λ s pre. h s pre }
 pub Leads-leave : {A : Type 0} {Pre : State → Type 0} (Post : A → State → Type 0) (halt : Halt) → IsLeft halt → Leads {A = A} Pre (leave halt) Post
 Leads-leave Post halt left = record { holds = λ s pre. left }
 
--- what is there goes on
+-- what is there is passed on
 pub Leads-found : {A B : Type 0} {Pre : State → Type 0} {Post : B → State → Type 0} (o : Option A) (a : A) (f : A → Eval B) → o ≡ Some a → Leads Pre (f a) Post → Leads Pre (bind (or_leave Stuck o) f) Post
 unfolding bind
 Leads-found {Pre = Pre} {Post = Post} o a f e h =
@@ -69,7 +69,7 @@ pub Leads-if : {A : Type 0} {Pre : State → Type 0} {Post : A → State → Typ
 Leads-if true h k = h
 Leads-if false h k = k
 
--- ---- inside a function, or at least around one
+-- ---- inside a function, or outside all
 
 abbrev pub IsWithin : Bool → Setting → BodyContext → Sequence → List ValTy → List Entry → Type 0
 IsWithin true r p code types stack = IsInside r p code types stack
@@ -79,7 +79,7 @@ pub around : (w : Bool) (r : Setting) (p : BodyContext) (code : Sequence) (types
 around true r p code types stack h = inr h
 around false r p code types stack h = h
 
--- what a step finds at place p: operands of the types before, and behind the instruction what takes operands of the types after
+-- what a step finds at point p: operands of the types before, and after the instruction what takes operands of the types after
 pub record Finds (w : Bool) (r : Setting) (p : BodyContext) (before after : List ValTy) (s : State) : Type 0 where
   pub operands : AreOf r before s.operands
   pub locals : AreOf r p.locals s.locals

@@ -97,7 +97,7 @@ instr-constants (suc levels) i bytes s =
     subst (λ (j : Instr). HasConstants (instruction j)) (roll-out-Instr i)
     (layer-constants (each (instr levels)) (out-Instr i) bytes (λ body bytes are. each-constants (instr levels) body bytes (instr-constants levels) are) s)
 
--- ---- what stands in sections
+-- ---- what is in sections
 
 front-bytes : (front back : List ℕ) → All IsByte (front ++ back) → All IsByte front
 front-bytes [] back h = All-nil IsByte

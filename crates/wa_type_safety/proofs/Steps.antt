@@ -34,7 +34,7 @@ module _ (r : Setting) (p : BodyContext) where
   br_if-safe label wanted below there =
       Leads-taken (λ c is. Leads-if (as_i32 c == 0) Leads-nothing_last (branch-safe r p label wanted below (reverse wanted ++ below) there))
 
-  -- the label that a table has at a place, or the default
+  -- the label that a table has at an index, or the default
   label-at : (labels : List ℕ) (default i : ℕ) (wanted : List ValTy) → All (HasLabel (context r.program p) wanted) (default ∷ labels) → slice_get p.labels (unwrap_or (slice_get labels i) default) ≡ Some wanted
   label-at labels default i wanted all = by (slice_get labels i) refl
     where

@@ -1,4 +1,4 @@
--- What validity is for: no run of a valid module gets stuck, and what it reaches is of the types that validity says.
+-- What validity guarantees: no run of a valid module gets stuck, and each state that it reaches has the types that validity says.
 use Rattle.std.specs.Prelude.{ℕ, ◌≡◌, ◌≢◌, List, [], length, All, Option, Some, None, option_to_list, option_and_then}
 use Rattle.wa_syntax.specs.declared.module.ValTy.{ValTy}
 use Rattle.wa_syntax.specs.declared.module.FuncTy.{FuncTy}

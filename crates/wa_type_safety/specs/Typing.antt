@@ -1,4 +1,4 @@
--- Well-typed states of the machine (appendix A.2 of the WebAssembly Core Specification 1.0): what stands in a state has the types
+-- Well-typed states of the machine (appendix A.2 of the WebAssembly Core Specification 1.0): what is in a state has the types
 -- that validity says.
 use Rattle.std.specs.Prelude.{ℕ, ◌<◌, ◌≤◌, ◌/◌, ◌^◌, ◌≡◌, List, [], ◌∷◌, ◌++◌, length, map, reverse, All, ◌⊎◌, Option, Some, None}
 use Rattle.wa_syntax.specs.declared.module.ValTy.{ValTy}
@@ -12,7 +12,7 @@ use Rattle.wa_syntax.specs.Steps.{most_pages}
 use Rattle.wa_type_safety.specs.Ranges.{IsByte, AreConstants, IsInRange}
 use mir.Val.{bits}
 
--- what a run is of: a module, its input, and the types of the operands that its outermost function leaves, the top one first
+-- the setting of a run: a module, its input, and the types of the operands that its outermost function leaves, the top one first
 pub record Setting : Type 0 where
   pub program : Module
   pub input : Input
@@ -26,7 +26,7 @@ BeginsInRange r = IsInRange r.program r.input
 abbrev pub IsOf : Setting → ValTy → ℕ → Type 0
 IsOf r t n = BeginsInRange r → n < 2 ^ bits (width_of t)
 
--- each value is of the type at its place
+-- each value is of the type at its index
 abbrev pub EachIsOf : Setting → List ValTy → List ℕ → Type 0
 EachIsOf r [] [] = Unit {0}
 EachIsOf r [] (n ∷ values) = ⊥
@@ -41,7 +41,7 @@ pub record AreOf (r : Setting) (types : List ValTy) (values : List ℕ) : Type 0
 abbrev pub global_types : Module → List ValTy
 global_types m = map (λ g. g.val) (context_of m).globals
 
--- The globals are of their types. If the run begins in range, the memory and what is left of the input are bytes, and the memory
+-- The globals are of their types. If the run begins in range, the memory and the rest of the input are bytes, and the memory
 -- has no more pages than it may.
 pub record IsStore (r : Setting) (globals memory : List ℕ) (input : Input) : Type 0 where
   pub globals_are : AreOf r (global_types r.program) globals
@@ -49,28 +49,28 @@ pub record IsStore (r : Setting) (globals memory : List ℕ) (input : Input) : T
   pub pages : BeginsInRange r → length memory / page ≤ most_pages r.program
   pub input_is : BeginsInRange r → All IsByte input.bytes
 
--- a place in a function: the types of its locals, what branches to the labels around it want, and the results of the function
+-- a point in a function: the types of its locals, of what branches to the enclosing labels want, and of the results of the function
 pub record BodyContext : Type 0 where
   pub locals : List ValTy
   pub labels : List (List ValTy)
   pub results : List ValTy
 
--- what the instructions at a place may name
+-- what the instructions at a point may name
 abbrev pub context : Module → BodyContext → Context
 context m p = record (context_of m) { locals = p.locals; labels = p.labels; results = p.results }
 
--- these instructions at place p lead from operands of the types before to those after, with constants in range if the run begins
+-- these instructions at point p lead from operands of the types before to those after, with constants in range if the run begins
 -- in range
 abbrev pub IsCode : Setting → BodyContext → Sequence → (before after : List ValTy) → Type 0
 IsCode r p code before after = AreTyped (context r.program p) code before after × (BeginsInRange r → AreConstants code)
 
--- a branch to the label of a block goes on behind it, with what the block leaves, and one to a loop's with the loop's
+-- a branch to the label of a block continues after it, with what the block leaves, and one to a loop's with the loop's
 -- instructions, with nothing
 abbrev pub IsTypedTarget : Setting → BodyContext → (wanted left : List ValTy) → Option Sequence → Type 0
 IsTypedTarget r p wanted left None = left ≡ reverse wanted
 IsTypedTarget r p wanted left (Some body) = (wanted ≡ []) × IsCode r p body [] left
 
--- From operands of these types the rest of a block at place p leads to its end. Behind it stand the instructions that are outside
+-- From operands of these types the rest of a block at point p leads to its end. After it come the instructions that are outside
 -- its label.
 pub record IsTypedInBlock (r : Setting) (p : BodyContext) (code : Sequence) (types : List ValTy)
     (kept : ℕ) (again : Option Sequence) (below : List ℕ) (Outside : BodyContext → List ValTy → Type 0) : Type 0 where
@@ -85,7 +85,7 @@ pub record IsTypedInBlock (r : Setting) (p : BodyContext) (code : Sequence) (typ
   pub values_below : AreOf r types_below below
   pub outside : Outside (record p { labels = labels }) (left ++ types_below)
 
--- From operands of these types the rest of a function's body leads to its end. Behind it stands the caller.
+-- From operands of these types the rest of a function's body leads to its end. After it the caller continues.
 pub record IsTypedInFunction (r : Setting) (p : BodyContext) (code : Sequence) (types : List ValTy)
     (kept : ℕ) (below locals : List ℕ) (Outside : BodyContext → List ValTy → Type 0) : Type 0 where
   pub caller : BodyContext
@@ -97,12 +97,12 @@ pub record IsTypedInFunction (r : Setting) (p : BodyContext) (code : Sequence) (
   pub caller_locals : AreOf r caller.locals locals
   pub outside : Outside caller (reverse p.results ++ types_below)
 
--- outside all functions nothing is left to be done, and the operands are those that the outermost one leaves
+-- outside all functions no instruction is left, and the operands are those that the outermost one leaves
 abbrev pub IsOutside : Setting → Sequence → List ValTy → List Entry → Type 0
 IsOutside r code types stack = (code ≡ nothing) × (stack ≡ []) × (types ≡ r.ends)
 
--- from operands of these types the instructions at place p lead to the end of a function, out of the labels and into the callers
--- that stand on the stack
+-- from operands of these types the instructions at point p lead to the end of a function, out of the labels and into the callers
+-- that are on the stack
 abbrev pub IsInside : Setting → BodyContext → Sequence → List ValTy → List Entry → Type 0
 IsInside r p code types [] = ⊥
 IsInside r p code types (Label kept again following below ∷ stack) =

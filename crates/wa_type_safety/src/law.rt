@@ -1,15 +1,15 @@
-//! The laws, each as what a function of an empty body ensures.
+//! The laws of type safety, each as what a function with an empty body ensures.
 
 ghost use Rattle.wa_type_safety.specs.Law.{NeverStuck, StaysTyped, EndsAsMain, SpelledIsInRange};
 
 use wa_syntax::Module;
 
-/// No run of a valid module that is linked gets stuck.
+/// Type safety: no run of a valid module that is linked gets stuck.
 pub fn never_stuck(program: &Module)
     ensures { NeverStuck program.now }
 {}
 
-/// Each state that such a run reaches is well typed.
+/// Preservation over whole runs: each state that such a run reaches is well typed.
 pub fn stays_typed(program: &Module)
     ensures { StaysTyped program.now }
 {}

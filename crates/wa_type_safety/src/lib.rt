@@ -1,4 +1,4 @@
-//! Type soundness of the integer WebAssembly machine: a module that validates never gets stuck. No code runs this; it is a law of
+//! Type safety of the integer WebAssembly machine: a module that validates never gets stuck. No code runs this; it is a law of
 //! the definitions of `wa_syntax`.
 #![tactic(auto)]
 

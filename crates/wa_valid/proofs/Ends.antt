@@ -1,4 +1,4 @@
--- The types that runs of locals stand for, by the ends of the runs: one more run, and the type at a place.
+-- The types that runs of locals denote, by the ends of the runs: one more run, and the type at an index.
 use Rattle.std.proofs.Common.{◌≡◌, ℕ, zero, suc, ◌+◌, ◌-◌, ◌<◌, ◌≤◌, true, false, leb, leb-true, take, List, [], ◌∷◌, ◌++◌, length, get_or, replicate, refl, sym, ap, ◌∙◌, append_assoc, arith}
 use Rattle.std.specs.Prelude.{Option, Some, All, slice_get, option_map}
 use Rattle.std.specs.List.Sorted.{IsNonDecreasingBy, IsPartitionPoint}
@@ -47,7 +47,7 @@ slice_get-past zero ty rest i past = ap (slice_get rest) (omega arith)
 slice_get-past (suc n) ty rest zero past = absurd (omega arith)
 slice_get-past (suc n) ty rest (suc i) past = slice_get-past n ty rest i (omega arith) ∙ ap (slice_get rest) (omega arith)
 
--- the local at a place is in the first run that ends behind it
+-- the local at an index is in the first run that ends after it
 pub slice_get-types_of_ends : (from at k : ℕ) (runs : List LocalRunEnd) → Rise from runs → from ≤ at
     → ((i : ℕ) (d : LocalRunEnd) → i < k → i < length runs → (get_or runs i d).end ≤ at)
     → ((d : LocalRunEnd) → k < length runs → at < (get_or runs k d).end)

@@ -43,7 +43,7 @@ Leads-more c instrs i d old mid new within first h =
 pub Leads-all : (c : Context) (instrs : List Instr) (i : ℕ) (old new : Stack) → length instrs ≤ i → Leads (AreTyped c (sequence (take i instrs))) old new → Leads (AreTyped c (sequence instrs)) old new
 Leads-all c instrs i old new end h = subst (λ (all : List Instr). Leads (AreTyped c (sequence all)) old new) (take_all i instrs end) h
 
--- an instruction that is ill typed behind those before it
+-- an instruction that is ill typed after those before it
 pub IsStuck-more : (c : Context) (instrs : List Instr) (i : ℕ) (d : Instr) (old mid : Stack) → i < length instrs → Leads (AreTyped c (sequence (take i instrs))) old mid → IsStuck (IsTyped c (instruction (get_or instrs i d))) mid → IsStuck (AreTyped c (sequence instrs)) old
 IsStuck-more c instrs i d old mid within first h =
     let front = map instruction (take i instrs) in

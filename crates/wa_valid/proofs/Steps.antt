@@ -171,7 +171,7 @@ Leads-unreachable taken old mid new is first = record {
 pub IsStuck-unreachable : (taken : List ValTy) (old : Stack) → IsStuck (Gives taken []) old → IsStuck (λ before after. Takes taken before) old
 IsStuck-unreachable taken old h = IsStuck-first (Gives taken []) (λ before after. Takes taken before) old (λ before after g. (g.0, (g.0, g.1, refl))) h
 
--- any operands are taken where any may stand
+-- any operands are taken where any may be
 pub Leads-any : (types : List ValTy) (s : Stack) → s ≡ any_operands → Leads (Gives types []) s s
 Leads-any types s is = record {
   reached = λ after f. (reverse types ++ after, subst (λ (s : Stack). Fits s (reverse types ++ after)) (sym is) tt, (after, refl, refl));

@@ -1,4 +1,4 @@
--- The types that runs of locals stand for, where each run has the number of the locals up to its end.
+-- The types that runs of locals denote, where each run has the number of the locals up to its end.
 use Rattle.std.specs.Prelude.{ℕ, ◌-◌, List, [], ◌∷◌, ◌++◌, replicate}
 use Rattle.wa_syntax.specs.declared.module.ValTy.{ValTy}
 use Rattle.wa_valid.specs.declared.locals.LocalRunEnd.{LocalRunEnd}

@@ -7,7 +7,7 @@ use Rattle.wa_syntax.specs.ValidModule.{IsValidOutside, context_of}
 use Rattle.wa_valid.specs.declared.fault.Fault.{Fault}
 use Rattle.wa_valid.specs.declared.fault.ValidFault.{ValidFault}
 
--- the function at this place is the first whose body is ill typed
+-- the function at this point is the first whose body is ill typed
 pub record IsFirstIllTyped (c : Context) (funcs : List Func) (at : ℕ) : Type 0 where
   pub front : All (IsTypedFunction c) (take at funcs)
   pub func : Func

@@ -1,4 +1,4 @@
-//! Contexts (section 3.1.1): what the parts of a module may name by number.
+//! Contexts (section 3.1.1): what the parts of a module may name by index.
 
 ghost use Rattle.std.specs.Prelude.{◌≡◌, ◌+◌, ◌≤◌, ◌++◌, length, map, filter_map, slice_get, Some, None, IfOk, IfErr, OnOk, option_to_list};
 ghost use Rattle.wa_syntax.specs.ValidModule.{context_of, imported_function, imported_table, imported_memory, imported_global};
@@ -13,7 +13,7 @@ use wa_syntax::{Func, FuncTy, GlobalDef, GlobalTy, Import, ImportKind, Module};
 #[derive(Drop)]
 pub struct Context<'m> {
     pub types: &'m [FuncTy],
-    /// The type of each function, by its number.
+    /// The type of each function, by its index.
     pub funcs: Items<u32>,
     /// How many tables there are.
     pub tables: usize,
@@ -38,7 +38,7 @@ impl<'m> Context<'m> {
         })
     }
 
-    /// The type with a number, if there is one.
+    /// The type with this index, if there is one.
     pub fn type_at(&self, ty: u32) -> Result<&'m FuncTy, Fault>
         ensures ok { IfOk result (λ found. slice_get self.now.types.now ty ≡ Some found.now) }
         ensures err { IfErr result (λ fault. (fault ≡ Fault.Invalid) × (slice_get self.now.types.now ty ≡ None)) }
@@ -49,7 +49,7 @@ impl<'m> Context<'m> {
         }
     }
 
-    /// The number of the type of the function with a number, if there is one.
+    /// The index of the type of the function with this index, if there is one.
     pub fn func_type_number(&self, func: u32) -> Result<u32, Fault>
         ensures ok { IfOk result (λ found. slice_get self.now.funcs func ≡ Some found) }
         ensures err { IfErr result (λ fault. (fault ≡ Fault.Invalid) × (slice_get self.now.funcs func ≡ None)) }
@@ -60,7 +60,7 @@ impl<'m> Context<'m> {
         }
     }
 
-    /// The type of the global with a number, if there is one.
+    /// The type of the global with this index, if there is one.
     pub fn global_type(&self, global: u32) -> Result<GlobalTy, Fault>
         ensures ok { IfOk result (λ found. slice_get self.now.globals global ≡ Some found) }
         ensures err { IfErr result (λ fault. (fault ≡ Fault.Invalid) × (slice_get self.now.globals global ≡ None)) }

@@ -12,7 +12,7 @@ use crate::fault::{Fault, ValidationRule, require};
 use crate::operands::Operands;
 use wa_syntax::{FuncTy, ValTy};
 
-/// What the label with a number, counted outwards, wants, if there is one. The labels are those that a place in a body may
+/// The type that the label with this index, counted outwards from 0, wants, if there is one. The labels are those that a point may
 /// branch to, the outermost first: for each the type of what it wants, if anything.
 fn label_type(labels: &[Option<ValTy>], label: u32) -> Result<Option<ValTy>, Fault>
     ensures ok { IfOk result (λ wanted. slice_get (reverse labels.now) label ≡ Some wanted) }
@@ -63,7 +63,7 @@ pub fn br_table(
     Ok(())
 }
 
-/// The labels with these numbers all want this.
+/// The labels with these indices all want this.
 fn all_want(labels: &[Option<ValTy>], table: &[u32], wanted: Option<ValTy>) -> ValidationRule
     ensures { Says (All (λ label. slice_get (reverse labels.now) label ≡ Some wanted) table.now) result }
 {
@@ -73,7 +73,7 @@ fn all_want(labels: &[Option<ValTy>], table: &[u32], wanted: Option<ValTy>) -> V
     Ok(())
 }
 
-/// The label with this number wants this.
+/// The label with this index wants this.
 fn wants(labels: &[Option<ValTy>], label: u32, wanted: Option<ValTy>) -> ValidationRule
     ensures { Says (slice_get (reverse labels.now) label ≡ Some wanted) result }
 {
@@ -109,7 +109,7 @@ pub fn call(context: &Context, operands: &mut Operands, func: u32) -> Validation
     call_of(operands, ty)
 }
 
-/// `call_indirect`, of a function in the table with the type of a number: as a call, with the place in the table on top.
+/// `call_indirect`, of a function in the table with the type of this index: as a call, with the index in the table on top.
 pub fn call_indirect(context: &Context, operands: &mut Operands, number: u32) -> ValidationRule
     ensures { (c : validity.Context) → c.tables ≡ context.now.tables → c.types ≡ context.now.types.now
         → Answers (IsTyped c (CallIndirect number)) (stack operands.old) (stack operands.new) result }

@@ -11,7 +11,7 @@ use thiserror::Error;
 /// Why a module is not known to be valid.
 #[derive(Clone, Copy, Debug, PartialEq, Eq, Hash, Error)]
 pub enum ValidFault {
-    /// The module is not valid. `func` is the place, among the module's own functions, of the first whose body is ill
+    /// The module is not valid. `func` is the index, among the module's own functions, of the first whose body is ill
     /// typed, or `None` where a rule outside bodies is broken.
     #[error("invalid module")]
     Invalid { func: Option<u32> },
@@ -42,7 +42,7 @@ impl Fault {
     }
 }
 
-/// The fault of a module where the body of the own function at this place is ill typed.
+/// The fault of a module where the body of the own function at this index is ill typed.
 fn invalid_at(at: usize) -> ValidFault
     ensures { IsInBody Fault.Invalid at result }
 {
@@ -83,7 +83,7 @@ impl<T: Drop> From<AllocFailed<T>> for Fault {
     }
 }
 
-/// What a rule answers.
+/// The result of checking a rule.
 pub type ValidationRule = Result<(), Fault>;
 
 /// A rule that holds exactly where the condition does.

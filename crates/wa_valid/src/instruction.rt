@@ -21,7 +21,7 @@ use std::alloc::Global;
 use wa_syntax::opcode::*;
 use wa_syntax::{Func, FuncTy, Instr, ValTy};
 
-/// What all places in a body may name.
+/// What every point in a body may name.
 #[derive(Clone, Copy)]
 pub struct Scope<'a, 'm> {
     context: &'a Context<'m>,
@@ -30,10 +30,10 @@ pub struct Scope<'a, 'm> {
     alloc: Global,
 }
 
-/// The labels that a place in a body may branch to, the outermost first: for each the type of what it wants, if anything.
+/// The labels that a point in a body may branch to, the outermost first: for each the type of what it wants, if anything.
 type Labels = Items<Option<ValTy>>;
 
-/// A function (3.4.1): its body gives what its type says, and may branch to its end.
+/// A function (3.4.1): its body leaves the results of its type, and may branch to its end.
 pub fn function(alloc: Global, context: &Context, func: &Func) -> ValidationRule
     requires { All (λ ty. length ty.results ≤ 1) context.now.types.now }
     ensures { Says (IsTypedFunction (names context.now) func.now) result }

@@ -1,5 +1,5 @@
-//! The types of a function's locals by number. The parameters stay where the function's type has them, and the runs of
-//! declared locals are summed once, so that a look-up is a search among the sums.
+//! The types of a function's locals by index. The parameters stay where the function's type has them, and the runs of
+//! declared locals are summed once, so that a look-up is a binary search among the sums.
 
 ghost use Rattle.std.specs.Prelude.{◌≡◌, ◌+◌, ◌++◌, slice_get, Some, None, IfOk, IfErr};
 ghost use Rattle.std.specs.List.Sorted.{IsNonDecreasingBy};
@@ -47,14 +47,14 @@ impl DeclaredLocals {
         Ok(DeclaredLocals { ends })
     }
 
-    /// The type of the declared local with a number, if there is one. Takes as many steps as halvings of the runs.
+    /// The type of the declared local with this index, if there is one. Takes logarithmically many steps in the number of runs.
     fn get(&self, at: u64) -> Option<ValTy>
         ensures { result ≡ slice_get self.now at }
     {
         type_at(&self.ends, at)
     }
 
-    /// The type of a function's local with a number, the parameters counted first, if there is one.
+    /// The type of a function's local with this index, the parameters first, if there is one.
     pub fn type_at(&self, ty: &FuncTy, local: u32) -> Result<ValTy, Fault>
         ensures ok { IfOk result (λ found. slice_get (ty.now.params ++ self.now) local ≡ Some found) }
         ensures err { IfErr result (λ fault. (fault ≡ Fault.Invalid) × (slice_get (ty.now.params ++ self.now) local ≡ None)) }
@@ -86,7 +86,7 @@ fn ends_of(alloc: Global, runs: &[LocalRun]) -> Result<Vec<LocalRunEnd>, Fault>
     Ok(ends)
 }
 
-/// The number of locals up to the end of a run of so many behind the others.
+/// The number of locals up to the end of a run of `count`, after the others.
 fn end_after(end: u64, count: u32) -> Result<u64, Fault>
     ensures ok { IfOk result (λ sum. sum ≡ end + count) }
     ensures err { IfErr result (λ fault. fault ≡ Fault.NoMemory) }
@@ -97,7 +97,7 @@ fn end_after(end: u64, count: u32) -> Result<u64, Fault>
     }
 }
 
-/// The type of the local with a number, if there is one, by the ends of the runs.
+/// The type of the local with this index, if there is one, by the ends of the runs.
 fn type_at(ends: &[LocalRunEnd], at: u64) -> Option<ValTy>
     requires { IsNonDecreasingBy (λ run. run.end) ends.now }
     ensures { result ≡ slice_get (types_of_ends 0 ends.now) at }

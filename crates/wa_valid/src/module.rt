@@ -55,7 +55,7 @@ fn functions(types: &[FuncTy], funcs: &[Func]) -> ValidationRule
     Ok(())
 }
 
-/// There is a type with this number.
+/// There is a type with this index.
 fn type_exists(types: &[FuncTy], ty: u32) -> ValidationRule
     ensures { Says (ty < length types.now) result }
 {
@@ -143,7 +143,7 @@ fn functions_exist(context: &Context, funcs: &[u32]) -> ValidationRule
     Ok(())
 }
 
-/// There is a function with this number.
+/// There is a function with this index.
 fn function_exists(context: &Context, func: u32) -> ValidationRule
     ensures { Says (func < length context.now.funcs) result }
 {
@@ -178,7 +178,7 @@ fn start(context: &Context, start: Option<u32>) -> ValidationRule
     }
 }
 
-/// The function with this number exists, and has no argument and no result.
+/// The function with this index exists, and has no argument and no result.
 fn start_function(context: &Context, func: u32) -> ValidationRule
     ensures { Says (IsStart (names context.now) func) result }
 {

@@ -14,7 +14,7 @@ use wa_syntax::ValTy;
 #[derive(Clone, Copy)]
 pub enum Operand {
     Known(ValTy),
-    /// Any type fits, since the place can't be reached.
+    /// Any type fits, since the point can't be reached.
     Unknown,
 }
 
@@ -28,7 +28,7 @@ fn is_of(operand: Operand, ty: ValTy) -> bool
     }
 }
 
-/// The operand that may have just the types that both may have, if there are any.
+/// The meet of two operands: the one that may have just the types that both may have, if there are any.
 fn both(one: Operand, other: Operand) -> Option<Operand>
     ensures some { IfSome result (IsBoth one other) }
     ensures none { IsNone result → AreApart one other }
@@ -39,16 +39,16 @@ fn both(one: Operand, other: Operand) -> Option<Operand>
     }
 }
 
-/// The operands of a block at a place in it, the latest last. Contracts see them as a `Stack`.
+/// The operands of a block at a point in it, the latest last. Contracts see them as a `Stack`.
 #[derive(Drop)]
 pub struct Operands {
     types: Vec<Operand>,
-    /// Whether the place can't be reached. Then operands of any types lie below these.
+    /// Whether the point can't be reached. Then operands of any types may be below these.
     unreachable: bool,
 }
 
 impl Operands {
-    /// What a block finds: nothing. Takes no memory.
+    /// The operands at the beginning of a block: none. Takes no memory.
     pub fn new(alloc: Global) -> Operands
         ensures { stack result ≡ no_operands }
     {
@@ -126,7 +126,7 @@ impl Operands {
         Ok(())
     }
 
-    /// Takes operands of these types off, the last one first. Where the place can't be reached and no operand is left,
+    /// Takes operands of these types off, the last one first. Where the point can't be reached and no operand is left,
     /// the others are not gone through, so that a call takes no longer than its operands took.
     pub fn pop_all(&mut self, types: &[ValTy]) -> ValidationRule
         ensures { Answers (Gives types.now []) (stack self.old) (stack self.new) result }
@@ -149,7 +149,7 @@ impl Operands {
         self.types.is_empty()
     }
 
-    /// Whether operands of any types may stand here.
+    /// Whether operands of any types may be here.
     fn is_any(&self) -> bool
         ensures { Decides result (stack self.now ≡ any_operands) }
     {
@@ -192,7 +192,7 @@ impl Operands {
         }
     }
 
-    /// The place after an instruction that control doesn't pass.
+    /// The point after an instruction after which control doesn't continue.
     pub fn set_unreachable(&mut self)
         ensures { stack self.new ≡ any_operands }
     {

@@ -47,7 +47,7 @@ impl Valid {
 
 /// Takes a module that is valid (3.4.10), in its integer part.
 ///
-/// `Invalid` comes where the module isn't valid, with the place of the first own function whose body is ill typed if all
+/// `Invalid` comes where the module isn't valid: with the index of the first own function whose body is ill typed if all
 /// rules outside bodies hold, and else with `None`. `NoMemory` comes where memory runs out.
 pub fn validate(alloc: Global, m: Module) -> Result<Valid, ValidFault>
     ensures module { IfOk result (λ valid. valid ≡ m) }

@@ -108,8 +108,8 @@ modules that are made use integers alone.
     end;
 
 gives `f.sa:3: E04: number form not taken`. FIXED of the library has four
-digits behind the point. Or count the parts, and put the point in when it is
-printed:
+digits behind the point, and FLT about seven in all: `FLT::of("0.5")`. Or count
+the parts, and put the point in when it is printed:
 
     class MAIN is
        main is

@@ -105,9 +105,9 @@ const E12: &str = r#"E12: class unknown or not usable
 
 No class has this name, or it is one that can't stand there: a partial class is
 no type, and some classes aren't included. Names from other languages are the
-usual cause; a text is a STR, and there is no FLT. A class of the library, as
-FMAP or TEXT, is in a file that stands beside the program:
-`sather lib fmap > fmap.sa`, and `sather run mine.sa fmap.sa`.
+usual cause; a text is a STR. A class of the library, as FMAP, TEXT or FLT, is
+in a file that stands beside the program: `sather lib fmap > fmap.sa`, and
+`sather run mine.sa fmap.sa`.
 
     class MAIN is
        main is

@@ -1,7 +1,7 @@
 //! Part 11 of the sections of docs/ERRORS.md.
 
 /// The texts of this part, each behind the words that ask for it.
-pub(crate) const ERRORS_10: [(&str, &str, &str, &str); 9] = [
+pub(crate) const ERRORS_10: [(&str, &str, &str, &str); 10] = [
     ("frames", "fault: frames", "fault: frames", FRAMES),
     ("fuel spent", "fuel spent", "fuel spent", FUEL_SPENT),
     ("store fault", "store fault", "store fault", STORE_FAULT),
@@ -15,6 +15,12 @@ pub(crate) const ERRORS_10: [(&str, &str, &str, &str); 9] = [
         "out of memory",
         "out of memory",
         OUT_OF_MEMORY,
+    ),
+    (
+        "internal error",
+        "internal error",
+        "internal error",
+        INTERNAL_ERROR,
     ),
 ];
 
@@ -235,4 +241,13 @@ gives `out of memory`. With a smaller room it fits:
     sather run --room 1024 f.sa
 
 prints `Hello`.
+"#;
+
+const INTERNAL_ERROR: &str = r#"internal error
+
+`internal error: NAME; please report this program`, status 70.
+
+The compiler is wrong, and not what it was given: something that it relies on
+isn't so, and NAME says what. No program is known that ends like this. Please
+report one that does, with its files and the command.
 "#;

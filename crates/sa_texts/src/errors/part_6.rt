@@ -1,13 +1,7 @@
 //! Part 7 of the sections of docs/ERRORS.md.
 
 /// The texts of this part, each behind the words that ask for it.
-pub(crate) const ERRORS_6: [(&str, &str, &str, &str); 6] = [
-    (
-        "E36",
-        "iter call in self or once",
-        "E36: iter call in self or once",
-        E36,
-    ),
+pub(crate) const ERRORS_6: [(&str, &str, &str, &str); 5] = [
     ("E37", "out of place", "E37: out of place", E37),
     (
         "E38",
@@ -24,35 +18,6 @@ pub(crate) const ERRORS_6: [(&str, &str, &str, &str); 6] = [
     ),
     ("E45", "bad bind", "E45: bad bind", E45),
 ];
-
-const E36: &str = r#"E36: iter call in self or once
-
-`FILE:LINE: E36: iter call in self or once`, status 120, at the iter's name.
-
-What an iter is called on, and its arguments that are marked `once`, are
-evaluated when it is started and never again. An iter call there would be asked
-for its first value alone.
-
-    class MAIN is
-       main is
-          loop #OUT + 1.upto!(1.upto!(3)) + " "; end;
-       end;
-    end;
-
-gives `f.sa:3: E36: iter call in self or once`. An iter that runs anew for each
-value of another one is a loop in a loop:
-
-    class MAIN is
-       main is
-          loop
-             most ::= 1.upto!(3);
-             loop #OUT + 1.upto!(most) + " "; end;
-          end;
-       end;
-    end;
-
-prints `1 1 2 1 2 3 `.
-"#;
 
 const E37: &str = r#"E37: out of place
 

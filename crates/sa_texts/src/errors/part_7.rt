@@ -1,7 +1,7 @@
 //! Part 8 of the sections of docs/ERRORS.md.
 
 /// The texts of this part, each behind the words that ask for it.
-pub(crate) const ERRORS_7: [(&str, &str, &str, &str); 7] = [
+pub(crate) const ERRORS_7: [(&str, &str, &str, &str); 8] = [
     (
         "E46",
         "condition not quiet",
@@ -19,6 +19,12 @@ pub(crate) const ERRORS_7: [(&str, &str, &str, &str); 7] = [
         E54,
     ),
     ("E55", "program too large", "E55: program too large", E55),
+    (
+        "E56",
+        "too many dispatch pairs",
+        "E56: too many dispatch pairs",
+        E56,
+    ),
 ];
 
 const E46: &str = r#"E46: condition not quiet
@@ -189,4 +195,34 @@ gives `f.sa:1: E55: program too large`. What is done many times is a loop:
     sather run f.sa
 
 prints `60000`.
+"#;
+
+const E56: &str = r#"E56: too many dispatch pairs
+
+`FILE:LINE: E56: too many dispatch pairs`, status 120, at the signature's name.
+
+For each signature of an abstract class and each class below it the compiler
+keeps which feature is called. These are at most 100,000 pairs, as of 100
+signatures and 1,000 classes.
+
+    {
+       echo 'abstract class $SHAPE is'; seq 100 | sed 's/.*/f&;/'; echo 'end;'
+       echo 'partial class SHAPE is'; seq 100 | sed 's/.*/f& is end;/'; echo 'end;'
+       seq 1001 | sed 's/.*/class C& < $SHAPE is include SHAPE; end;/'
+       echo 'class MAIN is attr s:$SHAPE;'; seq 1001 | sed 's/.*/attr x&:C&;/'; echo 'main is end; end;'
+    } > f.sa
+    sather check f.sa
+
+gives `f.sa:101: E56: too many dispatch pairs`. A signature that isn't called
+on the abstract class needn't be there:
+
+    {
+       echo 'abstract class $SHAPE is'; seq 10 | sed 's/.*/f&;/'; echo 'end;'
+       echo 'partial class SHAPE is'; seq 100 | sed 's/.*/f& is end;/'; echo 'end;'
+       seq 1001 | sed 's/.*/class C& < $SHAPE is include SHAPE; end;/'
+       echo 'class MAIN is attr s:$SHAPE;'; seq 1001 | sed 's/.*/attr x&:C&;/'; echo 'main is end; end;'
+    } > f.sa
+    sather check f.sa
+
+prints `accepted`.
 "#;

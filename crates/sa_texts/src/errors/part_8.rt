@@ -2,12 +2,6 @@
 
 /// The texts of this part, each behind the words that ask for it.
 pub(crate) const ERRORS_8: [(&str, &str, &str, &str); 5] = [
-    (
-        "E56",
-        "too many dispatch pairs",
-        "E56: too many dispatch pairs",
-        E56,
-    ),
     ("overflow", "fault: overflow", "fault: overflow", OVERFLOW),
     (
         "division by zero",
@@ -17,37 +11,13 @@ pub(crate) const ERRORS_8: [(&str, &str, &str, &str); 5] = [
     ),
     ("void", "fault: void", "fault: void", VOID),
     ("index", "fault: index", "fault: index", INDEX),
+    (
+        "no branch",
+        "fault: no branch",
+        "fault: no branch",
+        NO_BRANCH,
+    ),
 ];
-
-const E56: &str = r#"E56: too many dispatch pairs
-
-`FILE:LINE: E56: too many dispatch pairs`, status 120, at the signature's name.
-
-For each signature of an abstract class and each class below it the compiler
-keeps which feature is called. These are at most 100,000 pairs, as of 100
-signatures and 1,000 classes.
-
-    {
-       echo 'abstract class $SHAPE is'; seq 100 | sed 's/.*/f&;/'; echo 'end;'
-       echo 'partial class SHAPE is'; seq 100 | sed 's/.*/f& is end;/'; echo 'end;'
-       seq 1001 | sed 's/.*/class C& < $SHAPE is include SHAPE; end;/'
-       echo 'class MAIN is attr s:$SHAPE;'; seq 1001 | sed 's/.*/attr x&:C&;/'; echo 'main is end; end;'
-    } > f.sa
-    sather check f.sa
-
-gives `f.sa:101: E56: too many dispatch pairs`. A signature that isn't called
-on the abstract class needn't be there:
-
-    {
-       echo 'abstract class $SHAPE is'; seq 10 | sed 's/.*/f&;/'; echo 'end;'
-       echo 'partial class SHAPE is'; seq 100 | sed 's/.*/f& is end;/'; echo 'end;'
-       seq 1001 | sed 's/.*/class C& < $SHAPE is include SHAPE; end;/'
-       echo 'class MAIN is attr s:$SHAPE;'; seq 1001 | sed 's/.*/attr x&:C&;/'; echo 'main is end; end;'
-    } > f.sa
-    sather check f.sa
-
-prints `accepted`.
-"#;
 
 const OVERFLOW: &str = r#"fault: overflow
 
@@ -232,4 +202,36 @@ gives `prelude:84: fault: index`.
     end;
 
 prints `3`.
+"#;
+
+const NO_BRANCH: &str = r#"fault: no branch
+
+`FILE:LINE: fault: no branch`, status 121. Its `kind` is 5.
+
+No `when` of a `case` or a `typecase` fits, and there is no `else`. So a value
+that was forgotten isn't passed over in silence.
+
+    class MAIN is
+       hours(day:STR):INT is
+          case day
+          when "Saturday", "Sunday" then return 0;
+          end;
+          return 8;
+       end;
+       main is #OUT + hours("Monday") + "\n"; end;
+    end;
+
+gives `f.sa:3: fault: no branch`.
+
+    class MAIN is
+       hours(day:STR):INT is
+          case day
+          when "Saturday", "Sunday" then return 0;
+          else return 8;
+          end;
+       end;
+       main is #OUT + hours("Monday") + "\n"; end;
+    end;
+
+prints `8`.
 "#;

@@ -1,13 +1,7 @@
 //! Part 10 of the sections of docs/ERRORS.md.
 
 /// The texts of this part, each behind the words that ask for it.
-pub(crate) const ERRORS_9: [(&str, &str, &str, &str); 6] = [
-    (
-        "no branch",
-        "fault: no branch",
-        "fault: no branch",
-        NO_BRANCH,
-    ),
+pub(crate) const ERRORS_9: [(&str, &str, &str, &str); 5] = [
     (
         "no return",
         "fault: no return",
@@ -19,38 +13,6 @@ pub(crate) const ERRORS_9: [(&str, &str, &str, &str); 6] = [
     ("no room", "fault: no room", "fault: no room", NO_ROOM),
     ("too deep", "fault: too deep", "fault: too deep", TOO_DEEP),
 ];
-
-const NO_BRANCH: &str = r#"fault: no branch
-
-`FILE:LINE: fault: no branch`, status 121. Its `kind` is 5.
-
-No `when` of a `case` or a `typecase` fits, and there is no `else`. So a value
-that was forgotten isn't passed over in silence.
-
-    class MAIN is
-       hours(day:STR):INT is
-          case day
-          when "Saturday", "Sunday" then return 0;
-          end;
-          return 8;
-       end;
-       main is #OUT + hours("Monday") + "\n"; end;
-    end;
-
-gives `f.sa:3: fault: no branch`.
-
-    class MAIN is
-       hours(day:STR):INT is
-          case day
-          when "Saturday", "Sunday" then return 0;
-          else return 8;
-          end;
-       end;
-       main is #OUT + hours("Monday") + "\n"; end;
-    end;
-
-prints `8`.
-"#;
 
 const NO_RETURN: &str = r#"fault: no return
 

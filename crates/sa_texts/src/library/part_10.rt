@@ -1,7 +1,133 @@
 //! Part 11 of the files of lib/.
 
 /// The texts of this part, each behind the words that ask for it.
-pub(crate) const FILES_10: [(&str, &str, &str, &str); 1] = [("text", "text.sa", "text.sa", TEXT)];
+pub(crate) const FILES_10: [(&str, &str, &str, &str); 2] = [
+    ("str_cursor", "str_cursor.sa", "str_cursor.sa", STR_CURSOR),
+    ("text", "text.sa", "text.sa", TEXT),
+];
+
+const STR_CURSOR: &str =
+    r#"-- STR_CURSOR: a place in a text, which goes forward as bytes, words and numbers are taken from the text. Places count from 0. Many features
+-- have two names, since older code has both.
+--
+--    cursor ::= #STR_CURSOR("  width = 12, deep");
+--    name ::= cursor.get_word; cursor.skip_space;
+--    if cursor.test('=') then cursor.next; end;
+--    #OUT + name + ":" + (cursor.get_int + 1) + "\n";                                   -- width:13
+--    #OUT + cursor.get_upto(',').size + cursor.remaining + cursor.is_done + "\n";       -- 0 deepfalse
+class STR_CURSOR is
+   -- The text, and the place of the next byte; at the end it is the size of the text.
+   readonly attr buffer:STR;
+   readonly attr index:INT;
+
+   invariant:BOOL is return index >= 0 and index <= buffer.size; end;
+
+   -- A cursor at the beginning of a text.
+   create(text:STR):SAME post result.index = 0 is cursor ::= new; cursor.buffer := text; return cursor; end;
+
+   -- Goes back to the beginning; goes to a place; and has another text, at its beginning.
+   reset post index = 0 is index := 0; end;
+   go_to(place:INT) pre place >= 0 and place <= buffer.size post index = place is index := place; end;
+   assign(text:STR) post index = 0 is buffer := text; index := 0; end;
+
+   -- Whether the end is reached, by two names.
+   is_done:BOOL post result = (index = buffer.size) is return index >= buffer.size; end;
+   done:BOOL is return index >= buffer.size; end;
+
+   -- The next byte, which stays, by two names; the fault `index` at the end.
+   item:CHAR is return buffer[index]; end;
+   current:CHAR is return buffer[index]; end;
+
+   -- Whether the next byte is this one; false at the end.
+   test(c:CHAR):BOOL is return index < buffer.size and buffer[index] = c; end;
+
+   -- Goes one byte further, by two names, or n bytes, and back; not past the end, nor past the beginning.
+   next is index := (index + 1).min(buffer.size); end;
+   advance is index := (index + 1).min(buffer.size); end;
+   advance(n:INT) pre n >= 0 is index := index + n.min(buffer.size - index); end;
+   retract(n:INT) pre n >= 0 is index := index - n.min(index); end;
+
+   -- Goes past blanks: spaces, tabs, and what begins a line or a page; and past all bytes that are one of a text.
+   skip_space is loop while!(index < buffer.size and is_space(buffer[index])); index := index + 1; end; end;
+   skip(bytes:STR) is loop while!(index < buffer.size and is_one(buffer[index], bytes)); index := index + 1; end; end;
+
+   -- The next byte, and goes past it, by two names; the fault `index` at the end.
+   get_char:CHAR is c ::= buffer[index]; index := index + 1; return c; end;
+   get_item:CHAR is c ::= buffer[index]; index := index + 1; return c; end;
+
+   -- The bytes up to the next one that is this one, and goes past that; the rest where there is none.
+   get_upto(c:CHAR):STR is
+      start ::= index;
+      loop until!(index >= buffer.size or buffer[index] = c); index := index + 1; end;
+      text ::= buffer.substring(start, index - start);
+      next;
+      return text;
+   end;
+
+   -- The bytes up to the end of the line, and goes past that.
+   get_line:STR is return get_upto('\n'); end;
+
+   -- The bytes behind blanks up to the next blank, by two names; the empty text where none is left.
+   get_str:STR is return get_word; end;
+   get_word:STR is
+      skip_space;
+      start ::= index;
+      loop until!(index >= buffer.size or is_space(buffer[index])); index := index + 1; end;
+      return buffer.substring(start, index - start);
+   end;
+
+   -- Whether a whole number of INT stands behind blanks: digits, perhaps with a sign before them. The place stays.
+   is_int:BOOL is
+      start ::= index; value:INT;
+      found ::= takes_int(out value);
+      index := start;
+      return found;
+   end;
+
+   -- The whole number behind blanks, and goes past it, by two names. Where none stands there, "no whole number" is raised, and the place
+   -- stays.
+   int:INT is return get_int; end;
+   get_int:INT is
+      start ::= index; value:INT;
+      if ~takes_int(out value) then index := start; raise "no whole number"; end;
+      return value;
+   end;
+
+   -- The BOOL whose text stands behind blanks, and goes past it, by two names. Where none stands there, "no truth value" is raised, and the
+   -- place stays.
+   bool:BOOL is return get_bool; end;
+   get_bool:BOOL is
+      start ::= index;
+      word ::= get_word;
+      if word = "true" then return true; elsif word = "false" then return false; end;
+      index := start;
+      raise "no truth value";
+   end;
+
+   -- What is left, by two names. The place stays.
+   rest:STR is return buffer.substring(index, buffer.size - index); end;
+   remaining:STR is return rest; end;
+
+   -- Takes a number, and whether there was one. It is made below 0, where there is one more number than above.
+   private takes_int(out value:INT):BOOL is
+      skip_space;
+      is_below ::= test('-'); digits ::= 0;
+      if is_below or test('+') then index := index + 1; end;
+      loop
+         while!(index < buffer.size and buffer[index] >= '0' and buffer[index] <= '9');
+         digit ::= buffer[index].int - '0'.int;
+         if value < (-2147483647 - 1 + digit) / 10 then return false; end;
+         value := value * 10 - digit; digits := digits + 1; index := index + 1;
+      end;
+      if digits = 0 or (~is_below and value = -2147483647 - 1) then return false; end;
+      if ~is_below then value := -value; end;
+      return true;
+   end;
+
+   private is_space(c:CHAR):BOOL is return c = ' ' or (c >= '\t' and c <= '\r'); end;
+   private is_one(c:CHAR, bytes:STR):BOOL is loop if bytes.elt! = c then return true; end; end; return false; end;
+end;
+"#;
 
 const TEXT: &str =
     r#"-- CHARS and TEXT: what CHAR and STR of the prelude lack, as routines and iters of classes of their own: `TEXT::upper(s)` stands for

@@ -1,137 +1,230 @@
 //! Part 4 of the files of lib/.
 
 /// The texts of this part, each behind the words that ask for it.
-pub(crate) const FILES_3: [(&str, &str, &str, &str); 2] = [
-    ("fstr", "fstr.sa", "fstr.sa", FSTR),
-    ("in_lines", "in_lines.sa", "in_lines.sa", IN_LINES),
-];
+pub(crate) const FILES_3: [(&str, &str, &str, &str); 1] = [("fmap", "fmap.sa", "fmap.sa", FMAP)];
 
-const FSTR: &str =
-    r#"-- FSTR: a buffer of text that grows at its end. `s := s + "..."` makes a whole new text each time, and nothing that was made is given
--- back; a buffer takes room for what is put into it alone.
+const FMAP: &str =
+    r#"-- FMAP and FSET: a map and a set, found by hash, in the order in which the keys were put in. Keys are INT, CHAR, BOOL, STR, or of a
+-- class below $HASH that has `is_eq`; FMAP gives void where `get` finds no key, and raises a text where an index does.
 --
---    line ::= #FSTR;
---    loop line + 1.upto!(5) + ';'; end;
---    last ::= line.pop;
---    line + " and " + 6;
---    #OUT + line + "\n";                                      -- 1;2;3;4;5 and 6
-class FSTR < $STR, $IS_EQ is
-   include FLIST{CHAR};
+--    ages ::= #FMAP{STR, INT};
+--    ages["Ann"] := 31; ages["Bob"] := 45; ages["Ann"] := ages["Ann"] + 1;
+--    age:INT; loop name ::= ages.pairs!(out age); #OUT + name + " is " + age + ", "; end;       -- Ann is 32, Bob is 45,
+--    seen ::= #FSET{CHAR};
+--    loop seen.insert("banana".elt!); end; loop #OUT + seen.elt!; end; #OUT + seen.size + "\n";   -- ban3
+abstract class $HASH is hash:INT; end;
 
-   invariant:BOOL is return size >= 0 and size <= store.asize; end;
+-- The hashes of keys: numbers that are equal where keys are equal, and seldom else.
+class HASHES is
+   private const modulus:INT := 16777213;
 
-   -- An empty buffer that has room for n bytes at once.
-   create(n:INT):SAME post result.size = 0 is buffer ::= new; buffer.store := #ARRAY{CHAR}(n.max(8)); return buffer; end;
-
-   -- A buffer that holds a text.
-   create(s:STR):SAME post result.size = s.size is return #SAME(s.size) + s; end;
-
-   -- Whether nothing is in it.
-   is_empty:BOOL post result = (size = 0) is return size = 0; end;
-
-   -- Takes everything out, and keeps the room.
-   clear post size = 0 is size := 0; end;
-
-   -- Puts something behind what is there: a text, a number's decimal digits, a byte, or the text of what is below $STR. With a result
-   -- it gives the buffer itself, so that one may go on: `b + "x" + 1;`.
-   plus(s:STR) is put(s); end;
-   plus(s:STR):SAME is put(s); return self; end;
-   plus(i:INT) is put(i); end;
-   plus(i:INT):SAME is put(i); return self; end;
-   plus(c:CHAR) is push(c); end;
-   plus(c:CHAR):SAME is push(c); return self; end;
-   plus(s:$STR) is put(s.str); end;
-   plus(s:$STR):SAME is put(s.str); return self; end;
-
-   -- What is in it, as a text.
-   str:STR post result.size = size is return STR::of(store, size); end;
-
-   -- The n bytes from the place i on, as a text.
-   substring(i, n:INT):STR
-      pre i >= 0 and n >= 0 and i + n <= size
-      post result.size = n
-   is
-      part ::= #ARRAY{CHAR}(n);
-      loop place ::= part.ind!; part[place] := [i + place]; end;
-      return STR::of(part, n);
+   -- The hash of a key, which is never below 0.
+   of(key:INT):INT post result >= 0 is return key.band(0x7fffffff); end;
+   of(key:CHAR):INT post result >= 0 is return key.int; end;
+   of(key:BOOL):INT post result >= 0 is if key then return 1; end; return 0; end;
+   of(key:STR):INT post result >= 0 is
+      hash ::= 0;
+      loop hash := (hash * 31 + key.elt!.int) % modulus; end;
+      return hash;
    end;
+   of(key:$HASH):INT post result >= 0 is return key.hash.band(0x7fffffff); end;
 
-   -- The places, from 0 on.
-   ind!:INT post result >= 0 and result < size is i ::= 0; loop while!(i < size); yield i; i := i + 1; end; end;
+   -- The hash of two things, made of the hashes of each: for the `hash` of a class of one's own.
+   both(a, b:INT):INT pre a >= 0 and b >= 0 post result >= 0 is return (a % modulus * 31 + b % modulus) % modulus; end;
+end;
 
-   -- Turns the order of the bytes round.
-   to_reverse post size = initial(size) is
-      i ::= 0;
-      loop
-         while!(i < size / 2);
-         other ::= size - 1 - i;
-         c ::= [i]; [i] := [other]; [other] := c;
-         i := i + 1;
-      end;
-   end;
-
-   -- Whether the bytes are those of a text, or of another buffer.
-   is_eq(s:STR):BOOL is
-      if size /= s.size then return false; end;
-      loop if elt! /= s.elt! then return false; end; end;
-      return true;
-   end;
-   is_eq(other:FSTR):BOOL is
-      if size /= other.size then return false; end;
-      loop if elt! /= other.elt! then return false; end; end;
-      return true;
-   end;
-   is_eq(other:$OB):BOOL is
-      typecase other when FSTR then return is_eq(other); when STR then return is_eq(other); else return false; end;
-   end;
-
-   private put(s:STR) post size = initial(size) + s.size is loop push(s.elt!); end; end;
-
-   private put(i:INT) is if i < 0 then push('-'); put_digits(i); else put_digits(-i); end; end;
-
-   -- The digits of a number that isn't above 0: each number below 0 has an amount, and the least one has none above.
-   private put_digits(i:INT) pre i <= 0 is
-      if i < -9 then put_digits(i / 10); end;
-      push((48 - i % 10).char);
+-- A key of a map with what stands there: a link of the chain of its hash, and of the row of all keys.
+class FMAP_ENTRY{K, V} is
+   readonly attr key:K;
+   readonly attr hash:INT;
+   attr elt:V;
+   attr next, before, after:FMAP_ENTRY{K, V};
+   create(key:K, hash:INT, elt:V):SAME is
+      entry ::= new;
+      entry.key := key; entry.hash := hash; entry.elt := elt;
+      return entry;
    end;
 end;
-"#;
 
-const IN_LINES: &str =
-    r#"-- IN_LINES: the lines of the input, up to its end. `get_str` of IN gives the empty text for an empty line and at the end alike; here
--- the end is told. A line ends before its line feed; the last one may lack it, and bytes behind the last line feed are a line.
---
---    input ::= #IN_LINES; line:STR;
---    if input.get_line(out line) then #OUT + "The first line is " + line + ".\n"; end;
---    loop
---       line := input.elt!; #OUT + input.count + ": " + line + "\n";
---    end;
-class IN_LINES is
-   private include FLIST{CHAR} elt!->, aget->, aset->, pop->;
+class FMAP{K, V} is
+   private attr chains:ARRAY{FMAP_ENTRY{K, V}};
+   private attr first, last:FMAP_ENTRY{K, V};
 
-   -- What gives the bytes. IN has no objects: void of it reads the input.
-   private attr input:IN;
+   -- How many keys there are.
+   readonly attr size:INT;
 
-   -- How many lines have been read.
-   readonly attr count:INT;
+   invariant:BOOL is return size >= 0 and void(first) = (size = 0) and void(last) = (size = 0) and size <= 2 * chains.asize; end;
 
-   invariant:BOOL is return count >= 0 and size >= 0; end;
+   -- A map without keys.
+   create:SAME post result.size = 0 is map ::= new; map.clear; return map; end;
 
-   -- What reads the lines of the input from here on.
-   create:SAME post result.count = 0 is return new; end;
+   -- A map without keys. It grows as it must, so that the number isn't looked at.
+   create(n:INT):SAME post result.size = 0 is return #SAME; end;
 
-   -- The next line, and whether there was one: at the end it gives false.
-   get_line(out line:STR):BOOL post result = (count = initial(count) + 1) is
-      byte ::= input.get_byte;
-      if byte < 0 then return false; end;
-      size := 0;
-      loop until!(byte < 0 or byte = 10); push(byte.char); byte := input.get_byte; end;
-      line := STR::of(store, size);
-      count := count + 1;
+   -- Takes all keys out.
+   clear post size = 0 is
+      chains := #ARRAY{FMAP_ENTRY{K, V}}(11);
+      first := void; last := void; size := 0;
+   end;
+
+   -- Whether there are no keys.
+   is_empty:BOOL post result = (size = 0) is return size = 0; end;
+
+   -- Whether the key is there, by two names.
+   has_ind(key:K):BOOL is return ~void(entry(key)); end;
+   test(key:K):BOOL is return ~void(entry(key)); end;
+
+   -- What stands at the key; void where it isn't there.
+   get(key:K):V is
+      entry ::= entry(key);
+      if void(entry) then return void; end;
+      return entry.elt;
+   end;
+
+   -- What stands at the key, as `map[key]`. Where it isn't there, "no such key" is raised.
+   aget(key:K):V is
+      entry ::= entry(key);
+      if void(entry) then raise "no such key"; end;
+      return entry.elt;
+   end;
+
+   -- Puts something at the key, as `map[key] := elt`, in the place of what stood there. With a result `insert` gives the map itself.
+   aset(key:K, elt:V) post size >= initial(size) and size <= initial(size) + 1 and size > 0 is
+      entry ::= entry(key);
+      if void(entry) then link(#FMAP_ENTRY{K, V}(key, hash_of(key), elt)); else entry.elt := elt; end;
+   end;
+   insert(key:K, elt:V) post size >= initial(size) and size <= initial(size) + 1 and size > 0 is [key] := elt; end;
+   insert(key:K, elt:V):SAME post size >= initial(size) and size <= initial(size) + 1 and size > 0 is
+      [key] := elt;
+      return self;
+   end;
+
+   -- Takes the key out, if it is there. With a result it gives the map itself.
+   delete(key:K) post size <= initial(size) and size >= initial(size) - 1 is
+      entry ::= entry(key);
+      if ~void(entry) then unchain(entry); unlink(entry); size := size - 1; end;
+   end;
+   delete(key:K):SAME post size <= initial(size) and size >= initial(size) - 1 is delete(key); return self; end;
+
+   -- The keys, in the order in which they were put in. The one that was yielded last may be taken out meanwhile.
+   keys!:K is loop yield entries!.key; end; end;
+
+   -- What stands at the keys, in their order, by two names.
+   elts!:V is loop yield entries!.elt; end; end;
+   targets!:V is loop yield entries!.elt; end; end;
+
+   -- The keys, each with what stands there. An `out` argument takes no room, as a pair would that is made each time.
+   pairs!(out elt:V):K is loop entry ::= entries!; elt := entry.elt; yield entry.key; end; end;
+
+   -- A map of its own with the same keys.
+   copy:SAME post result.size = size is
+      map ::= #SAME;
+      loop entry ::= entries!; map.link(#FMAP_ENTRY{K, V}(entry.key, entry.hash, entry.elt)); end;
+      return map;
+   end;
+
+   private entries!:FMAP_ENTRY{K, V} is
+      entry ::= first;
+      loop until!(void(entry)); yield entry; entry := entry.after; end;
+   end;
+
+   -- The hash of a key. A class that includes this one may take keys of other types, by a routine of its own.
+   private hash_of(key:K):INT is return HASHES::of(key); end;
+
+   private entry(key:K):FMAP_ENTRY{K, V} is
+      hash ::= hash_of(key);
+      entry ::= chains[hash % chains.size];
+      loop until!(void(entry) or (entry.hash = hash and entry.key = key)); entry := entry.next; end;
+      return entry;
+   end;
+
+   -- Puts a new key's entry into its chain and behind all others. No chain has more than 2 entries on the average.
+   private link(entry:FMAP_ENTRY{K, V}) is
+      if size = 2 * chains.size then rehash(2 * chains.size + 1); end;
+      chain(entry);
+      entry.before := last;
+      if void(last) then first := entry; else last.after := entry; end;
+      last := entry;
+      size := size + 1;
+   end;
+
+   private chain(entry:FMAP_ENTRY{K, V}) is
+      place ::= entry.hash % chains.size;
+      entry.next := chains[place];
+      chains[place] := entry;
+   end;
+
+   private rehash(count:INT) is
+      chains := #ARRAY{FMAP_ENTRY{K, V}}(count);
+      loop chain(entries!); end;
+   end;
+
+   private unchain(entry:FMAP_ENTRY{K, V}) is
+      place ::= entry.hash % chains.size;
+      link ::= chains[place];
+      if SYS::ob_eq(link, entry) then chains[place] := entry.next; return; end;
+      loop until!(SYS::ob_eq(link.next, entry)); link := link.next; end;
+      link.next := entry.next;
+   end;
+
+   private unlink(entry:FMAP_ENTRY{K, V}) is
+      if void(entry.before) then first := entry.after; else entry.before.after := entry.after; end;
+      if void(entry.after) then last := entry.before; else entry.after.before := entry.before; end;
+   end;
+end;
+
+class FSET{T} is
+   private attr map:FMAP{T, BOOL};
+
+   -- A set of nothing.
+   create:SAME is set ::= new; set.map := #FMAP{T, BOOL}; return set; end;
+
+   -- How many elements it has, and whether it has none.
+   size:INT post result = map.size is return map.size; end;
+   is_empty:BOOL post result = (map.size = 0) is return map.size = 0; end;
+
+   -- Whether the element is in it, by two names.
+   has(elt:T):BOOL is return map.has_ind(elt); end;
+   test(elt:T):BOOL is return map.has_ind(elt); end;
+
+   -- Puts the element in, if it isn't there. With a result it gives the set itself.
+   insert(elt:T) post map.size >= initial(map.size) is map[elt] := true; end;
+   insert(elt:T):SAME post map.size >= initial(map.size) is map[elt] := true; return self; end;
+
+   -- Takes the element out, if it is there. With a result it gives the set itself.
+   delete(elt:T) post map.size <= initial(map.size) is map.delete(elt); end;
+   delete(elt:T):SAME post map.size <= initial(map.size) is map.delete(elt); return self; end;
+
+   -- The elements, in the order in which they were put in. The one that was yielded last may be taken out meanwhile.
+   elt!:T is loop yield map.keys!; end; end;
+
+   -- A set of its own with the same elements.
+   copy:SAME is set ::= new; set.map := map.copy; return set; end;
+
+   -- What is in one of the two sets, in both, and in this one alone; each is a set of its own.
+   union(other:SAME):SAME is
+      set ::= copy;
+      loop set.insert(other.elt!); end;
+      return set;
+   end;
+   intersection(other:SAME):SAME is
+      set ::= #SAME;
+      loop elt ::= elt!; if other.has(elt) then set.insert(elt); end; end;
+      return set;
+   end;
+   difference(other:SAME):SAME is
+      set ::= #SAME;
+      loop elt ::= elt!; if ~other.has(elt) then set.insert(elt); end; end;
+      return set;
+   end;
+
+   -- Whether each of its elements is in the other set.
+   is_subset(other:SAME):BOOL is
+      loop if ~other.has(elt!) then return false; end; end;
       return true;
    end;
 
-   -- The lines from here on.
-   elt!:STR is line:STR; loop while!(get_line(out line)); yield line; end; end;
+   -- Whether the two sets have the same elements.
+   is_eq(other:SAME):BOOL is return size = other.size and is_subset(other); end;
 end;
 "#;

@@ -1,201 +1,129 @@
 //! Part 5 of the files of lib/.
 
 /// The texts of this part, each behind the words that ask for it.
-pub(crate) const FILES_4: [(&str, &str, &str, &str); 1] = [("inti", "inti.sa", "inti.sa", INTI)];
+pub(crate) const FILES_4: [(&str, &str, &str, &str); 1] = [("fmt", "fmt.sa", "fmt.sa", FMT)];
 
-const INTI: &str =
-    r#"-- INTI: whole numbers of any size. A number never changes; each operation makes a new one.
+const FMT: &str =
+    r#"-- FMT: a text with fields, and values that are put into them. A field is `<>`, which takes the text of a value as it is, or `<`, signs `#`,
+-- perhaps a point among them, and `>`: the text is put into as many places as stand between the two, a number at the right and others at
+-- the left. A point rounds a number to as many digits as signs stand behind it. What is longer than its field isn't cut, and a `<` that
+-- begins no field stands for itself.
 --
---    power ::= #INTI(1);
---    loop 100.times!; power := power + power; end;
---    #OUT + power + "\n";                                                 -- 1267650600228229401496703205376
---    #OUT + (#INTI("123456789012345678901234567890") * #INTI(-1000)) + "\n";      -- -123456789012345678901234567890000
---    #OUT + power.div(7) + " and " + power.mod(7) + "\n";                 -- 181092942889747057356671886482 and 2
-class INTI < $STR, $IS_EQ is
-   -- The digits to the base 10,000, from the lowest on; the highest isn't 0. Two digits' product, and what is carried, fit an INT.
-   private attr limbs:ARRAY{INT};
-   private attr is_below:BOOL;
-   private const base:INT := 10000;
+--    #OUT + #FMT("<#####> costs <###.##>\n", "tea", #FMT("<>.<>", 3, 149));               -- tea   costs   3.15
+--    #OUT + #FMT("<###>|<###>|<#>|", 7, -12, 345);                                        --   7|-12|345|
+--    rows:ARRAY{$STR} := |1, 'a', true|; #OUT + #FMT("<>-<>-<>\n", rows);                 -- 1-a-true
+class FMT < $STR is
+   -- The text with its values.
+   readonly attr str:STR;
 
-   invariant:BOOL is return limbs.asize > 0 or ~is_below; end;
+   private include FLIST{CHAR} create->, pop->, aset->;
 
-   -- The number of an INT.
-   create(i:INT):SAME is
-      limbs ::= #ARRAY{INT}(3);
-      rest ::= i;
-      loop limbs.set!((rest % base).abs); rest := rest / base; end;
-      return of(limbs, i < 0);
-   end;
+   -- A text with values for its fields, one to eight, or those of an array. Where there are more or fewer fields a text is raised.
+   create(form:STR, a:$STR):SAME is return filled(form, |a|); end;
+   create(form:STR, a, b:$STR):SAME is return filled(form, |a, b|); end;
+   create(form:STR, a, b, c:$STR):SAME is return filled(form, |a, b, c|); end;
+   create(form:STR, a, b, c, d:$STR):SAME is return filled(form, |a, b, c, d|); end;
+   create(form:STR, a, b, c, d, e:$STR):SAME is return filled(form, |a, b, c, d, e|); end;
+   create(form:STR, a, b, c, d, e, f:$STR):SAME is return filled(form, |a, b, c, d, e, f|); end;
+   create(form:STR, a, b, c, d, e, f, g:$STR):SAME is return filled(form, |a, b, c, d, e, f, g|); end;
+   create(form:STR, a, b, c, d, e, f, g, h:$STR):SAME is return filled(form, |a, b, c, d, e, f, g, h|); end;
+   create(form:STR, values:ARRAY{$STR}):SAME is return filled(form, values); end;
 
-   -- The number of a text of decimal digits, perhaps with a sign before them. A text that is none is raised, in a sentence.
-   create(s:STR):SAME is
-      first ::= 0;
-      if s.size > 0 and (s[0] = '-' or s[0] = '+') then first := 1; end;
-      limbs ::= #ARRAY{INT}((s.size - first + 3) / 4);
-      if s.size = first then raise "not a whole number: " + s; end;
+   private filled(form:STR, values:ARRAY{$STR}):SAME is
+      fmt ::= new;
+      place ::= 0; used ::= 0;
       loop
-         place ::= first.upto!(s.size - 1);
-         if s[place] < '0' or s[place] > '9' then raise "not a whole number: " + s; end;
-         limb ::= (s.size - 1 - place) / 4;
-         limbs[limb] := limbs[limb] * 10 + s[place].int - '0'.int;
+         while!(place < form.size);
+         stop ::= field_end(form, place);
+         if stop < 0 then
+            fmt.push(form[place]); place := place + 1;
+         else
+            if used = values.size then raise "more fields than values: " + form; end;
+            fmt.put(values[used].str, form.substring(place + 1, stop - place - 1));
+            used := used + 1; place := stop + 1;
+         end;
       end;
-      return of(limbs, s[0] = '-');
+      if used < values.size then raise "more values than fields: " + form; end;
+      fmt.str := STR::of(fmt.store, fmt.size);
+      return fmt;
    end;
 
-   -- 1 of a number above 0, -1 of one below, and 0 of 0.
-   sign:INT post result >= -1 and result <= 1 is
-      if limbs.size = 0 then return 0; elsif is_below then return -1; end;
-      return 1;
-   end;
-
-   -- The amount, and the number with the other sign.
-   abs:SAME is return of(limbs, false); end;
-   negate:SAME is return of(limbs, ~is_below); end;
-
-   -- The sum of the two, and what is left of this number without the other.
-   plus(other:SAME):SAME is
-      if is_below = other.is_below then return of(sum(limbs, other.limbs), is_below);
-      elsif is_less(limbs, other.limbs) then return of(rest(other.limbs, limbs), other.is_below);
-      end;
-      return of(rest(limbs, other.limbs), is_below);
-   end;
-   minus(other:SAME):SAME is return plus(other.negate); end;
-
-   -- The product.
-   times(other:SAME):SAME is
-      product ::= #ARRAY{INT}(limbs.size + other.limbs.size);
-      loop place ::= limbs.ind!; add_multiple(product, place, limbs[place], other.limbs); end;
-      return of(product, is_below /= other.is_below);
-   end;
-
-   -- The number n times multiplied by itself.
-   pow(n:INT):SAME pre n >= 0 is
-      power ::= #SAME(1); square ::= self;
+   -- The place of the `>` of the field that begins at a place; -1 where none begins there.
+   private field_end(form:STR, place:INT):INT is
+      if form[place] /= '<' then return -1; end;
+      points ::= 0; signs ::= 0;
       loop
-         if n % 2 = 1 then power := power * square; end;
-         n := n / 2;
-         until!(n = 0);
-         square := square * square;
+         stop ::= (place + 1).upto!(form.size - 1);
+         case form[stop]
+         when '#' then signs := signs + 1;
+         when '.' then points := points + 1;
+         when '>' then if points = 0 or (points = 1 and signs > 0) then return stop; end; return -1;
+         else return -1;
+         end;
       end;
-      return power;
+      return -1;
    end;
 
-   -- The quotient by a number of at most 200,000 as its amount, rounded towards zero, and what is left, with the sign of this number.
-   div(by:INT):SAME pre by >= -200000 and by <= 200000 is
-      quotient ::= #ARRAY{INT}(limbs.size);
-      rest ::= 0;
+   -- Puts a value's text behind what is there, as what stands in its field says.
+   private put(text, field:STR) is
+      is_number ::= is_number(text);
+      if is_number and point_of(field) < field.size then text := rounded(text, field.size - 1 - point_of(field)); end;
+      if is_number then blanks(field.size - text.size); end;
+      loop push(text.elt!); end;
+      if ~is_number then blanks(field.size - text.size); end;
+   end;
+
+   private blanks(n:INT) is loop n.times!; push(' '); end; end;
+
+   -- Whether a text is a number in digits: perhaps a sign, digits, and perhaps a point with digits behind it.
+   private is_number(text:STR):BOOL is
+      place ::= 0; point ::= point_of(text);
+      if text.size > 0 and text[0] = '-' then place := 1; end;
+      if point = place or point = text.size - 1 then return false; end;
       loop
-         place ::= (limbs.size - 1).downto!(0);
-         rest := rest * base + limbs[place];
-         quotient[place] := rest / by.abs;
-         rest := rest % by.abs;
+         i ::= place.upto!(text.size - 1);
+         if i /= point and (text[i] < '0' or text[i] > '9') then return false; end;
       end;
-      return of(quotient, is_below /= (by < 0));
-   end;
-   mod(by:INT):INT pre by >= -200000 and by <= 200000 is
-      rest ::= 0;
-      loop rest := (rest * base + limbs[(limbs.size - 1).downto!(0)]) % by.abs; end;
-      if is_below then return -rest; end;
-      return rest;
-   end;
-
-   -- Whether the two are equal, and whether this one is less.
-   is_eq(other:SAME):BOOL is
-      if is_below /= other.is_below or limbs.size /= other.limbs.size then return false; end;
-      loop if limbs.elt! /= other.limbs.elt! then return false; end; end;
       return true;
    end;
-   is_eq(other:$OB):BOOL is typecase other when INTI then return is_eq(other); else return false; end; end;
-   is_lt(other:SAME):BOOL is
-      if is_below /= other.is_below then return is_below;
-      elsif is_below then return is_less(other.limbs, limbs);
-      end;
-      return is_less(limbs, other.limbs);
+
+   -- The place of the first point in a text; its size where there is none.
+   private point_of(text:STR):INT is
+      loop place ::= 0.upto!(text.size - 1); if text[place] = '.' then return place; end; end;
+      return text.size;
    end;
 
-   -- The number as an INT; `overflow` where it is none. It is made below 0, where there is one more number than above.
-   int:INT is
-      number ::= 0;
-      loop limb ::= limbs[(limbs.size - 1).downto!(0)]; number := number * base - limb; end;
-      if is_below then return number; end;
-      return -number;
-   end;
-
-   -- The decimal digits, with `-` in front where it is below 0.
-   str:STR is
-      if limbs.size = 0 then return "0"; end;
-      highest ::= limbs[limbs.size - 1].str;
-      if is_below then highest := "-" + highest; end;
-      digits ::= #ARRAY{CHAR}(highest.size + 4 * (limbs.size - 1));
-      loop digits.set!(highest.elt!); end;
+   -- A number in digits rounded to n digits behind the point; what is in the middle goes away from 0. Nothing but zeros has no sign.
+   private rounded(text:STR, n:INT):STR pre n >= 0 is
+      first ::= 0; point ::= point_of(text);
+      if text[0] = '-' then first := 1; end;
+      digits ::= #FLIST{INT};
+      loop digits.push(digit(text, first.upto!(point - 1))); end;
+      loop digits.push(digit(text, (point + 1).upto!(point + n))); end;
+      carry ::= digit(text, point + n + 1) / 5;
+      is_zero ::= carry = 0;
       loop
-         place ::= highest.size.upto!(digits.size - 1);
-         behind ::= digits.size - 1 - place;
-         digits[place] := ('0'.int + limbs[behind / 4] / 10.pow(behind % 4) % 10).char;
+         place ::= (digits.size - 1).downto!(0);
+         if digits[place] > 0 then is_zero := false; end;
+         digits[place] := digits[place] + carry;
+         carry := digits[place] / 10;
+         digits[place] := digits[place] % 10;
       end;
-      return STR::of(digits, digits.size);
-   end;
-
-   -- The number of these limbs, without the zeros at their end. There is no 0 below 0.
-   private of(limbs:ARRAY{INT}, is_below:BOOL):SAME is
-      size ::= limbs.size;
-      loop while!(size > 0 and limbs[size - 1] = 0); size := size - 1; end;
-      number ::= new;
-      number.limbs := #ARRAY{INT}(size);
-      loop number.limbs.set!(limbs.elt!); end;
-      number.is_below := is_below and size > 0;
-      return number;
-   end;
-
-   -- The limb of a place, and 0 past the highest.
-   private limb(limbs:ARRAY{INT}, place:INT):INT is
-      if place < limbs.size then return limbs[place]; end;
-      return 0;
-   end;
-
-   private is_less(a, b:ARRAY{INT}):BOOL is
-      if a.size /= b.size then return a.size < b.size; end;
+      sum ::= "";
+      if first = 1 and ~is_zero then sum := "-"; end;
+      if carry > 0 then sum := sum + carry; end;
       loop
-         place ::= (a.size - 1).downto!(0);
-         if a[place] /= b[place] then return a[place] < b[place]; end;
-      end;
-      return false;
-   end;
-
-   private sum(a, b:ARRAY{INT}):ARRAY{INT} is
-      sum ::= #ARRAY{INT}(a.size.max(b.size) + 1);
-      carried ::= 0;
-      loop
-         place ::= sum.ind!;
-         carried := carried + limb(a, place) + limb(b, place);
-         sum[place] := carried % base;
-         carried := carried / base;
+         place ::= 0.upto!(digits.size - 1);
+         if place = digits.size - n then sum := sum + "."; end;
+         sum := sum + digits[place];
       end;
       return sum;
    end;
 
-   -- The limbs of a without b, which isn't above a.
-   private rest(a, b:ARRAY{INT}):ARRAY{INT} is
-      rest ::= #ARRAY{INT}(a.size);
-      borrowed ::= 0;
-      loop
-         place ::= rest.ind!;
-         left ::= a[place] - limb(b, place) - borrowed;
-         if left < 0 then rest[place] := left + base; borrowed := 1; else rest[place] := left; borrowed := 0; end;
-      end;
-      return rest;
-   end;
-
-   -- Adds a multiple of limbs to those of a sum, from a place on.
-   private add_multiple(sum:ARRAY{INT}, place, factor:INT, limbs:ARRAY{INT}) is
-      carried ::= 0;
-      loop
-         carried := carried + sum[place] + factor * limbs.elt!;
-         sum[place] := carried % base;
-         carried := carried / base;
-         place := place + 1;
-      end;
-      sum[place] := carried;
+   -- The digit at a place of a text; 0 behind its end.
+   private digit(text:STR, place:INT):INT is
+      if place >= text.size then return 0; end;
+      return text[place].int - '0'.int;
    end;
 end;
 "#;

@@ -16,6 +16,11 @@ class INTS is
    const maxint:INT := 2147483647;
    const minint:INT := -2147483647 - 1;
 
+   -- The numbers from `start` on, up to the greatest one; so many of them; and so many from 0 on.
+   up!(once start:INT):INT post result >= initial(start) is loop yield start.upto!(maxint); end; end;
+   for!(once start, count:INT):INT post result >= initial(start) is loop yield start + 0.upto!(count - 1); end; end;
+   times!(once count:INT):INT post result >= 0 and result < initial(count) is loop yield 0.upto!(count - 1); end; end;
+
    -- So many numbers from `start` on, each by so much more than the one before.
    step!(once start, count, by:INT):INT is
       number ::= start;

@@ -1,10 +1,7 @@
 //! Part 8 of the files of lib/.
 
 /// The texts of this part, each behind the words that ask for it.
-pub(crate) const FILES_7: [(&str, &str, &str, &str); 2] = [
-    ("list", "list.sa", "list.sa", LIST),
-    ("queue", "queue.sa", "queue.sa", QUEUE),
-];
+pub(crate) const FILES_7: [(&str, &str, &str, &str); 1] = [("list", "list.sa", "list.sa", LIST)];
 
 const LIST: &str =
     r#"-- LIST: a list that grows, with what FLIST of the prelude lacks. It includes FLIST and has all that this has.
@@ -22,6 +19,18 @@ class EQUAL is
    of(a, b:STR):BOOL is return a = b; end;
    of(a, b:$OB):BOOL is
       typecase a when $IS_EQ then return a.is_eq(b); else return SYS::ob_eq(a, b); end;
+   end;
+
+   -- Whether two are the same, which Sather 1.1 asks by SYS::is_eq: of values and texts whether they are equal, by `is_eq`, and of
+   -- objects whether they are one. Values whose class isn't below $IS_EQ can't be compared: a text is raised.
+   same(a, b:INT):BOOL post result = (a = b) is return a = b; end;
+   same(a, b:CHAR):BOOL post result = (a = b) is return a = b; end;
+   same(a, b:BOOL):BOOL post result = (a = b) is return a = b; end;
+   same(a, b:STR):BOOL is return a = b; end;
+   same(a, b:$OB):BOOL is
+      -- An object is one with itself, and so is void; a value and a text are one with nothing.
+      if SYS::ob_eq(a, a) then return SYS::ob_eq(a, b); end;
+      typecase a when $IS_EQ then return a.is_eq(b); else raise "values of a class that isn't below $IS_EQ"; end;
    end;
 end;
 
@@ -43,31 +52,39 @@ class LIST{T} is
    -- Takes all elements out, and keeps the room.
    clear post size = 0 is size := 0; end;
 
-   -- The first and the last element.
+   -- The first and the last element, which is the top one too.
    first:T pre size > 0 is return [0]; end;
    last:T pre size > 0 is return [size - 1]; end;
+   top:T pre size > 0 is return [size - 1]; end;
+
+   -- Puts an element behind the others, and gives the list itself, so that one may go on: `list.push(1).push(2);`.
+   push(elt:T):SAME post size = initial(size) + 1 is push(elt); return self; end;
 
    -- Takes the last element out, and gives it.
    pop:T pre size > 0 post size = initial(size) - 1 is size := size - 1; return store[size]; end;
 
-   -- Puts the elements of an array or of another list behind the others.
+   -- Puts the elements of an array or of another list behind the others. With a result it gives the list itself.
    append(elts:ARRAY{T}) post size = initial(size + elts.asize) is loop push(elts.elt!); end; end;
+   append(elts:ARRAY{T}):SAME post size = initial(size + elts.asize) is append(elts); return self; end;
    append(other:SAME) post size = initial(size + other.size) is
       loop push(other[0.upto!(other.size - 1)]); end;
    end;
+   append(other:SAME):SAME post size = initial(size + other.size) is append(other); return self; end;
 
-   -- Puts an element to the place i, and those from there on one place further.
+   -- Puts an element to the place i, and those from there on one place further. With a result it gives the list itself.
    insert(i:INT, elt:T) pre i >= 0 and i <= size post size = initial(size) + 1 is
       push(elt);
       loop place ::= (size - 1).downto!(i + 1); [place] := [place - 1]; end;
       [i] := elt;
    end;
+   insert(i:INT, elt:T):SAME pre i >= 0 and i <= size post size = initial(size) + 1 is insert(i, elt); return self; end;
 
-   -- Takes out the element of the place i, and puts those behind it one place nearer.
+   -- Takes out the element of the place i, and puts those behind it one place nearer. With a result it gives the list itself.
    delete(i:INT) pre i >= 0 and i < size post size = initial(size) - 1 is
       loop place ::= i.upto!(size - 2); [place] := [place + 1]; end;
       size := size - 1;
    end;
+   delete(i:INT):SAME pre i >= 0 and i < size post size = initial(size) - 1 is delete(i); return self; end;
 
    -- The first place of an element that is equal; -1 where there is none.
    index_of(elt:T):INT post result >= -1 and result < size is
@@ -75,8 +92,9 @@ class LIST{T} is
       return -1;
    end;
 
-   -- Whether an element is equal, and how many are.
+   -- Whether an element is equal, by two names, and how many are.
    contains(elt:T):BOOL is return index_of(elt) >= 0; end;
+   has(elt:T):BOOL is return index_of(elt) >= 0; end;
    count(elt:T):INT post result >= 0 and result <= size is
       count ::= 0;
       loop if EQUAL::of(elt!, elt) then count := count + 1; end; end;
@@ -122,139 +140,16 @@ class LIST{T} is
       return true;
    end;
 
+   -- The elements from a place on, and n of them.
+   elt!(once start:INT):T pre start >= 0 is place ::= start; loop while!(place < size); yield [place]; place := place + 1; end; end;
+   elt!(once start, n:INT):T pre start >= 0 and n >= 0 and start + n <= size is
+      loop yield [start.upto!(start + n - 1)]; end;
+   end;
+
    -- The places, from 0 on.
    ind!:INT post result >= 0 and result < size is place ::= 0; loop while!(place < size); yield place; place := place + 1; end; end;
 
    -- Puts an element to each place, one in each round.
    set!(elt:T) is place ::= 0; loop while!(place < size); [place] := elt; yield; place := place + 1; end; end;
-end;
-"#;
-
-const QUEUE: &str =
-    r#"-- STACK, QUEUE and PRIORITY_QUEUE: what is put in comes out last in, first out; first in, first out; or the least first, by `<`. They
--- grow as they must.
---
---    stack ::= #STACK{INT}; loop stack.push(1.upto!(3)); end; #OUT + stack.pop + stack.top + stack.size + "\n";      -- 322
---    queue ::= #QUEUE{STR}; queue.enqueue("a"); queue.enqueue("b"); #OUT + queue.dequeue + queue.first + "\n";      -- ab
---    urgent ::= #PRIORITY_QUEUE{INT};
---    loop urgent.insert("hello".elt!.int); end;
---    loop until!(urgent.is_empty); #OUT + urgent.pop.char; end;                                                     -- ehllo
-class STACK{T} is
-   private attr elts:FLIST{T};
-
-   -- A stack of nothing.
-   create:SAME is stack ::= new; stack.elts := #FLIST{T}; return stack; end;
-
-   -- How many elements it has, and whether it has none.
-   size:INT post result = elts.size is return elts.size; end;
-   is_empty:BOOL post result = (elts.size = 0) is return elts.size = 0; end;
-
-   -- Puts an element on top.
-   push(elt:T) post elts.size = initial(elts.size) + 1 is elts.push(elt); end;
-
-   -- Takes the top element off, and gives it.
-   pop:T pre elts.size > 0 post elts.size = initial(elts.size) - 1 is return elts.pop; end;
-
-   -- The top element, which stays.
-   top:T pre elts.size > 0 is return elts[elts.size - 1]; end;
-
-   -- The elements from the top down.
-   elt!:T is loop yield elts[(elts.size - 1).downto!(0)]; end; end;
-end;
-
--- The elements stand in a ring, from `start` on.
-class QUEUE{T} is
-   private attr ring:ARRAY{T};
-   private attr start:INT;
-
-   -- How many elements it has.
-   readonly attr size:INT;
-
-   invariant:BOOL is return size >= 0 and size <= ring.asize and start >= 0 and start < ring.asize; end;
-
-   -- A queue of nothing.
-   create:SAME post result.size = 0 is queue ::= new; queue.ring := #ARRAY{T}(8); return queue; end;
-
-   -- Whether it has no elements.
-   is_empty:BOOL post result = (size = 0) is return size = 0; end;
-
-   -- Puts an element behind the others.
-   enqueue(elt:T) post size = initial(size) + 1 is
-      if size = ring.size then grow; end;
-      ring[(start + size) % ring.size] := elt;
-      size := size + 1;
-   end;
-
-   -- Takes the first element out, and gives it.
-   dequeue:T pre size > 0 post size = initial(size) - 1 is
-      elt ::= ring[start];
-      start := (start + 1) % ring.size;
-      size := size - 1;
-      return elt;
-   end;
-
-   -- The first element, which stays.
-   first:T pre size > 0 is return ring[start]; end;
-
-   -- The elements from the first on.
-   elt!:T is
-      place ::= 0;
-      loop while!(place < size); yield ring[(start + place) % ring.size]; place := place + 1; end;
-   end;
-
-   private grow post size < ring.asize is
-      wider ::= #ARRAY{T}(2 * size);
-      loop wider.set!(elt!); end;
-      ring := wider;
-      start := 0;
-   end;
-end;
-
--- A heap: the element of the place n isn't above those of the places 2n + 1 and 2n + 2.
-class PRIORITY_QUEUE{T} is
-   private attr elts:FLIST{T};
-
-   -- A queue of nothing.
-   create:SAME is queue ::= new; queue.elts := #FLIST{T}; return queue; end;
-
-   -- How many elements it has, and whether it has none.
-   size:INT post result = elts.size is return elts.size; end;
-   is_empty:BOOL post result = (elts.size = 0) is return elts.size = 0; end;
-
-   -- Puts an element in.
-   insert(elt:T) post elts.size = initial(elts.size) + 1 is
-      elts.push(elt);
-      place ::= elts.size - 1;
-      loop
-         while!(place > 0 and elt < elts[(place - 1) / 2]);
-         elts[place] := elts[(place - 1) / 2];
-         place := (place - 1) / 2;
-      end;
-      elts[place] := elt;
-   end;
-
-   -- An element than which none is less, which stays.
-   top:T pre elts.size > 0 is return elts[0]; end;
-
-   -- Takes an element out than which none is less, and gives it.
-   pop:T pre elts.size > 0 post elts.size = initial(elts.size) - 1 is
-      top ::= elts[0];
-      last ::= elts.pop;
-      if elts.size > 0 then sink(last); end;
-      return top;
-   end;
-
-   -- Puts an element to the first place, and lets lesser ones rise past it.
-   private sink(elt:T) is
-      place ::= 0; child ::= 1;
-      loop
-         while!(child < elts.size);
-         if child + 1 < elts.size and elts[child + 1] < elts[child] then child := child + 1; end;
-         while!(elts[child] < elt);
-         elts[place] := elts[child];
-         place := child; child := 2 * place + 1;
-      end;
-      elts[place] := elt;
-   end;
 end;
 "#;

@@ -1,4 +1,4 @@
-//! Builds the modules of tests from their parts in a row.
+//! Builds the modules of tests from a list of their parts.
 
 use sqlite_items::Items;
 use std::alloc::Global;
@@ -26,7 +26,7 @@ pub enum ModuleField<'a> {
     Data(u32, Init),
 }
 
-/// A step of a body, as the binary format has them. Each `If` has its `Else`.
+/// An instruction of a body in flat form, as the binary format has them. Each `If` has its `Else`.
 #[derive(Clone, Copy)]
 pub enum FlatInstr<'a> {
     Op(u8),
@@ -113,8 +113,8 @@ fn add_import(alloc: Global, m: &mut Module, part: ModuleField) -> Result<(), Fa
         _ => return Ok(()),
     };
     m.imports.push(Import {
-        module: Name::from_slice(alloc, b"")?,
-        name: Name::from_slice(alloc, b"")?,
+        module: WasmName::from_slice(alloc, b"")?,
+        name: WasmName::from_slice(alloc, b"")?,
         kind,
     })?;
     Ok(())
@@ -128,7 +128,7 @@ fn add_export(alloc: Global, m: &mut Module, part: ModuleField) -> Result<(), Fa
         ModuleField::ExportGlobal(name, global) => (name, ExportKind::Global(global)),
         _ => return Ok(()),
     };
-    let name = Name::from_slice(alloc, name)?;
+    let name = WasmName::from_slice(alloc, name)?;
     m.exports.push(Export { name, kind })?;
     Ok(())
 }
@@ -145,7 +145,7 @@ fn func(alloc: Global, ty: u32, steps: &[FlatInstr]) -> Result<Func, Fail> {
     })
 }
 
-/// A block whose end is not reached yet.
+/// An open block.
 #[derive(Drop)]
 struct PendingBlock<'a> {
     before: Items<Instr>,
@@ -153,7 +153,7 @@ struct PendingBlock<'a> {
     then: Items<Instr>,
 }
 
-/// The instructions that steps stand for.
+/// The instructions that this flat list denotes.
 fn body(alloc: Global, steps: &[FlatInstr]) -> Result<Items<Instr>, Fail> {
     let mut open: Vec<PendingBlock> = Vec::new(alloc);
     let mut body = Items::new(alloc);

@@ -6,14 +6,14 @@ use wa_syntax::Init;
 use wa_syntax::ValTy::{I32, I64};
 use wa_syntax::opcode::*;
 
-/// What is shown, the parts of a module, and for an invalid one the place of the ill-typed function, if that is why.
+/// A label, the parts of a module, and for an invalid one the index of the ill-typed function, if that is why.
 pub type ModuleCase = (
     &'static str,
     &'static [ModuleField<'static>],
     Result<(), Option<u32>>,
 );
 
-/// Modules that keep or break a rule outside bodies, and the places of ill-typed functions.
+/// Modules that keep or break a rule outside bodies, and the indices of ill-typed functions.
 pub const MODULES: &[ModuleCase] = &[
     ("an empty module", &[], Ok(())),
     // V8 takes types with several results.
@@ -258,7 +258,7 @@ pub const MODULES: &[ModuleCase] = &[
     ),
 ];
 
-/// What is shown, the number of the function's type, its body, and whether it is well typed.
+/// A label, the index of the function's type, its body, and whether it is well typed.
 pub type BodyCase = (&'static str, u32, &'static [FlatInstr<'static>], bool);
 
 /// Bodies of a function in the module of `bodies`.

@@ -14,7 +14,7 @@ use sqlite_items::Items;
 use std::alloc::Global;
 use wa_syntax::{Instr, ValTy};
 
-/// How many blocks may be open at a place of a function.
+/// The most blocks that may be open at a point of a function.
 const MAX_NESTING: u32 = 1000;
 
 /// The instructions of a function, and their end.
@@ -30,7 +30,7 @@ pub fn expression(alloc: Global, text: &[u8], at: u32) -> Listed<Items<Instr>>
     Ok((body, end))
 }
 
-/// Whether a sequence of instructions stops at a place: at an `end` or an `else`.
+/// Whether a sequence of instructions stops at a position: at an `end` or an `else`.
 fn stops(text: &[u8], at: u32) -> bool
     requires size { length text.now < u32.MAX }
     requires place { at ≤ length text.now }
@@ -129,7 +129,7 @@ fn structured(
     }
 }
 
-/// The branch behind `else`, which stands exactly where the branch holds instructions, and the end of the `if`.
+/// The branch after `else`, which is there exactly where the branch holds instructions, and the end of the `if`.
 #[cycle(instructions)]
 fn else_end(alloc: Global, text: &[u8], at: u32, levels: u32) -> Listed<Items<Instr>>
     requires size { length text.now < u32.MAX }

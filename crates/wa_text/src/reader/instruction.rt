@@ -10,7 +10,7 @@ use crate::reader::words::{index, indices, number};
 use std::alloc::Global;
 use wa_syntax::{Instr, ValTy};
 
-/// Which instruction holds others.
+/// The instructions that hold others.
 #[derive(Clone, Copy, Debug, PartialEq, Eq)]
 pub enum BlockKind {
     Block,
@@ -18,12 +18,12 @@ pub enum BlockKind {
     If,
 }
 
-/// What the first line of an instruction stands for.
+/// What the first line of an instruction denotes.
 #[derive(Drop)]
 pub enum FirstLine {
     /// The whole instruction.
     Whole(Instr),
-    /// The beginning of one that holds others, with the type of its result, if it has one.
+    /// The beginning of an instruction that holds others, with the type of its result, if it has one.
     Begin(BlockKind, Option<ValTy>),
 }
 
@@ -52,7 +52,7 @@ fn block_kind(word: &[u8]) -> Option<BlockKind>
     }
 }
 
-/// An instruction that holds no others: its first word, and those behind it.
+/// An instruction that holds no others: its first word, and those after it.
 fn simple(alloc: Global, first: &[u8], words: &[&[u8]]) -> Result<Instr, LineFault>
     ensures { Reads whole (first.now ∷ texts words.now) result }
 {
@@ -80,7 +80,7 @@ fn plain(name: &[u8]) -> Result<Instr, LineFault>
     }
 }
 
-/// `br_table`: the labels, and the default behind them.
+/// `br_table`: the labels, and the default after them.
 fn br_table(alloc: Global, labels: &[&[u8]], default: &[u8]) -> Result<Instr, LineFault>
     ensures { Reads whole (codes "br_table" ∷ texts labels.now ++ default.now ∷ []) result }
 {
@@ -100,7 +100,7 @@ fn with_number(first: &[u8], value: &[u8]) -> Result<Instr, LineFault>
     indexed(first, index(value)?)
 }
 
-/// An instruction of a word and a number of 32 bits: a label, a function, a type, a local or a global, or the bits of an
+/// An instruction of a word and a number of 32 bits: the index of a label, a function, a type, a local or a global, or the bits of an
 /// `i32`.
 fn indexed(first: &[u8], index: u32) -> Result<Instr, LineFault>
     requires table { first.now ≢ codes "br_table" }

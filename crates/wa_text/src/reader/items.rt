@@ -18,7 +18,7 @@ use wa_syntax::{
     ValTy,
 };
 
-/// How many locals a function may declare.
+/// The most locals that a function may declare.
 const MAX_LOCALS: usize = 1_000_000;
 
 /// An import.
@@ -53,7 +53,7 @@ fn import_kind(kind: &[u8], words: &[&[u8]]) -> Result<ImportKind, LineFault>
     }
 }
 
-/// What stands on the first line of a function.
+/// The first line of a function.
 #[derive(Drop)]
 pub struct FunctionHead {
     pub ty: u32,
@@ -89,7 +89,7 @@ fn locals(alloc: Global, words: &[&[u8]]) -> Result<Locals, LineFault>
     in_runs(alloc, types.as_slice())
 }
 
-/// Types in a row, in runs of one type.
+/// Consecutive types as runs of one type.
 fn in_runs(alloc: Global, types: &[ValTy]) -> Result<Locals, LineFault>
     ensures { MatchResult result (λ read. read ≡ types.now) (λ fault. fault ≡ NoMemory) }
 {
@@ -163,7 +163,7 @@ fn export_kind(kind: &[u8], value: &[u8]) -> Result<ExportKind, LineFault>
     }
 }
 
-/// The number of the start function.
+/// The index of the start function.
 pub struct StartItem;
 
 impl LineForm for StartItem {

@@ -27,10 +27,10 @@ use crate::reader::words::following;
 use sqlite_items::Items;
 use std::alloc::{AllocError, Global};
 
-/// What is read at a place, with the place behind it, both at the beginning of a line.
+/// What is read at a position, with the position after it, both at the beginning of a line.
 pub type Listed<T> = Result<(T, u32), TextFault>;
 
-/// The line that begins at a place, and the place behind its line feed. `None` comes where no line feed follows.
+/// The line that begins at a position, and the position after its line feed. `None` comes where no line feed follows.
 fn line_at(text: &[u8], at: u32) -> Option<(&[u8], u32)>
     requires size { length text.now < u32.MAX }
     requires place { at ≤ length text.now }
@@ -44,7 +44,7 @@ fn line_at(text: &[u8], at: u32) -> Option<(&[u8], u32)>
     Some((&rest[..len], at + len as u32 + 1))
 }
 
-/// The place behind a line, where it is this word alone.
+/// The position after a line, where it is this word alone.
 pub fn following_line(text: &[u8], at: u32, word: &[u8]) -> Option<u32>
     requires size { length text.now < u32.MAX }
     requires place { at ≤ length text.now }
@@ -59,7 +59,7 @@ pub fn following_line(text: &[u8], at: u32, word: &[u8]) -> Option<u32>
     if line == word { Some(end) } else { None }
 }
 
-/// The place behind a line that can't be another than this word alone.
+/// The position after a line that has to be this word alone.
 pub fn word_line(text: &[u8], at: u32, word: &[u8]) -> Result<u32, TextFault>
     requires size { length text.now < u32.MAX }
     requires place { at ≤ length text.now }
@@ -81,7 +81,7 @@ fn words_in(alloc: Global, line: &[u8]) -> Result<Vec<&[u8]>, AllocError>
     line.split(|byte| *byte == b' ').collect(alloc)
 }
 
-/// The words of the line at a place, and the place behind it.
+/// The words of the line at a position, and the position after it.
 pub fn words(alloc: Global, text: &[u8], at: u32) -> Listed<Vec<&[u8]>>
     requires size { length text.now < u32.MAX }
     requires place { at ≤ length text.now }
@@ -106,7 +106,7 @@ fn first_word(line: &[u8]) -> &[u8]
     }
 }
 
-/// Whether the line at a place begins with this word.
+/// Whether the line at a position begins with this word.
 pub fn begins(text: &[u8], at: u32, word: &[u8]) -> bool
     requires size { length text.now < u32.MAX }
     requires place { at ≤ length text.now }
@@ -119,15 +119,15 @@ pub fn begins(text: &[u8], at: u32, word: &[u8]) -> bool
     first_word(line) == word
 }
 
-/// An item that is a line: what the words behind its first stand for.
+/// An item that is a line: what the words after its first denote.
 pub trait LineForm {
-    /// What they stand for.
+    /// What they denote.
     type Value: Drop;
 
-    /// Which words stand for a value.
+    /// Which words denote a value.
     ghost form: { Self.Value → List (List ℕ) → Type 0 };
 
-    /// Reads the words behind the first.
+    /// Reads the words after the first.
     ///
     /// `Wrong` comes where they stand for nothing, and `NoMemory` where memory runs out.
     fn read(alloc: Global, words: &[&[u8]]) -> Result<Self::Value, LineFault>
@@ -161,7 +161,7 @@ pub fn item<P: LineForm>(alloc: Global, text: &[u8], at: u32, first: &[u8]) -> L
     Ok((value, end))
 }
 
-/// The items of the lines that begin with a word, as far as these go.
+/// The items of the lines that begin with a word, up to the first line that doesn't.
 pub fn items<P: LineForm>(
     alloc: Global,
     text: &[u8],

@@ -29,7 +29,7 @@ pub fn read(alloc: Global, text: &[u8]) -> Result<Module, ListFault>
     ensures found { IfOk result (IsListing text.now) }
     // What it is the listing of is read, unless memory runs out: so `NotListing` comes only where it is the listing of none.
     ensures complete { (m : Module) → IsListing text.now m → MatchResult result (λ read. read ≡ m) (λ fault. fault ≡ NoMemory) }
-    // A refusal names a line of the text, or the one behind its last line feed.
+    // A refusal names a line of the text, or the one after its last line feed.
     ensures line { IfErr result (NamesLine text.now) }
     // With this line it is clear that the text is none: no listing has the same lines up to it.
     ensures clear { IfErr result (NoneBegins text.now) }
@@ -44,7 +44,7 @@ pub fn read(alloc: Global, text: &[u8]) -> Result<Module, ListFault>
     }
 }
 
-/// The fault of a text, by the place of its first wrong line: one more than the line feeds before it is the line's number.
+/// The fault of a text, by the position of its first wrong line: the line's number is one more than the line feeds before it.
 fn not_listing(text: &[u8], at: u32) -> ListFault
     requires size { length text.now < 4294967295 }
     ensures line { NamesLine text.now result }
@@ -54,7 +54,7 @@ fn not_listing(text: &[u8], at: u32) -> ListFault
     ListFault::NotListing(newlines as u32 + 1)
 }
 
-/// How many line feeds stand in front of a place.
+/// How many line feeds there are before a position.
 fn line_feeds(text: &[u8], end: usize) -> usize
     ensures count { result ≡ count_by (λ byte. byte == 10) (take end text.now) }
     ensures within { result ≤ length text.now }
@@ -62,7 +62,7 @@ fn line_feeds(text: &[u8], end: usize) -> usize
     text.iter().take(end).filter(|byte| **byte == b'\n').count()
 }
 
-/// The module that a text begins with, and the place behind its last line.
+/// The module that a text begins with, and the position after its last line.
 fn module(alloc: Global, text: &[u8]) -> Listed<Module>
     requires size { length text.now < u32.MAX }
     ensures reaches { IfOk result (λ read. ReachesIn text.now 0 read.1) }

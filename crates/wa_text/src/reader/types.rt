@@ -15,7 +15,7 @@ use sqlite_items::Items;
 use std::alloc::Global;
 use wa_syntax::{FuncTy, GlobalTy, Limits, ValTy};
 
-/// The type of a value that a word stands for.
+/// The type of a value that a word denotes.
 fn value_type(word: &[u8]) -> Option<ValTy>
     ensures { Knows val (word.now ∷ []) result }
 {
@@ -26,7 +26,7 @@ fn value_type(word: &[u8]) -> Option<ValTy>
     }
 }
 
-/// The types at the front of the words, and the words behind them.
+/// The types that the words begin with, and the words after them.
 pub fn value_types<'a>(
     alloc: Global,
     words: &'a [&'a [u8]],
@@ -110,7 +110,7 @@ impl LineForm for LimitsItem {
     }
 }
 
-/// The type of a global, where no other words are.
+/// The type of a global, whose words these are.
 pub fn only_global_type(words: &[&[u8]]) -> Result<GlobalTy, LineFault>
     ensures { Reads globaltype (texts words.now) result }
 {

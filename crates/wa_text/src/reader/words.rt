@@ -1,4 +1,4 @@
-//! The words of a line. A word is that of a value where the value is written so.
+//! The words of a line. A word denotes a value where the value is written so.
 
 ghost use Rattle.std.specs.Prelude.{◌≡◌, [], ◌∷◌, MatchResult};
 ghost use Rattle.wa_text.specs.Forms.{each};
@@ -11,7 +11,7 @@ use sqlite_items::Items;
 use std::alloc::Global;
 use wa_syntax::WasmName;
 
-/// The words behind the first, which can't be another one.
+/// The words after the first, which has to be this one.
 pub fn following<'a>(words: &'a [&'a [u8]], wanted: &[u8]) -> Result<&'a [&'a [u8]], LineFault>
     ensures { MatchResult result (λ rest. texts words.now ≡ wanted.now ∷ texts rest.now)
         (Refuses (λ (rest : Line) line. line ≡ wanted.now ∷ rest) (texts words.now)) }
@@ -39,7 +39,7 @@ pub fn number(word: &[u8]) -> Result<u64, LineFault>
     }
 }
 
-/// The number of a type, a function, a table, a memory, a global, a local or a label.
+/// The index of a type, a function, a table, a memory, a global, a local or a label.
 pub fn index(word: &[u8]) -> Result<u32, LineFault>
     ensures { Reads u32 (word.now ∷ []) result }
 {
@@ -51,7 +51,7 @@ pub fn index(word: &[u8]) -> Result<u32, LineFault>
     }
 }
 
-/// Such a number that is the only word.
+/// An index that is the only word.
 pub fn only_index(words: &[&[u8]]) -> Result<u32, LineFault>
     ensures { Reads u32 (texts words.now) result }
 {
@@ -61,7 +61,7 @@ pub fn only_index(words: &[&[u8]]) -> Result<u32, LineFault>
     }
 }
 
-/// Such numbers, one for each word.
+/// Indices, one for each word.
 pub fn indices(alloc: Global, words: &[&[u8]]) -> Result<Items<u32>, LineFault>
     ensures { Reads (each u32) (texts words.now) result }
 {

@@ -82,7 +82,7 @@ fn begin(out: &mut Vec<u8>, kind: &[u8], ty: Option<ValTy>) -> Result<(), NoMemo
     end_line(out)
 }
 
-/// The branch after `else`, which is left out where it is empty, and the `end` of the `if`.
+/// The branch after `else`, which is omitted where it is empty, and the `end` of the `if`.
 #[cycle(instructions)]
 fn else_end(out: &mut Vec<u8>, otherwise: &[Instr]) -> Result<(), NoMemory>
     ensures { OnOk result ((levels : _) → AddsLines (else_end (each (instr levels)) otherwise.now) out.old.items out.new.items) }
@@ -94,7 +94,7 @@ fn else_end(out: &mut Vec<u8>, otherwise: &[Instr]) -> Result<(), NoMemory>
     expression(out, otherwise)
 }
 
-/// An instruction that is its opcode alone. An opcode that is none of one has no line.
+/// An instruction that is its opcode alone. An opcode of no such instruction has no line.
 fn plain(out: &mut Vec<u8>, opcode: u8) -> Result<(), NoMemory>
     ensures { OnOk result (AddsLines (line (named plain_names opcode)) out.old.items out.new.items) }
 {
@@ -104,7 +104,7 @@ fn plain(out: &mut Vec<u8>, opcode: u8) -> Result<(), NoMemory>
     }
 }
 
-/// A word and a number: a label, a function, a type, a local or a global, or the bits of an `i32`.
+/// A word and a number: the index of a label, a function, a type, a local or a global, or the bits of an `i32`.
 fn indexed(out: &mut Vec<u8>, word: &[u8], n: u32) -> Result<(), NoMemory>
     ensures { OnOk result (AddsLines (indexed word.now n) out.old.items out.new.items) }
 {
@@ -113,7 +113,7 @@ fn indexed(out: &mut Vec<u8>, word: &[u8], n: u32) -> Result<(), NoMemory>
     end_line(out)
 }
 
-/// `br_table`: the labels, and the default behind them.
+/// `br_table`: the labels, and the default after them.
 fn br_table(out: &mut Vec<u8>, labels: &[u32], default: u32) -> Result<(), NoMemory>
     ensures { OnOk result (AddsLines (line (word (codes "br_table") then each u32 labels.now then u32 default))
         out.old.items out.new.items) }
@@ -124,7 +124,7 @@ fn br_table(out: &mut Vec<u8>, labels: &[u32], default: u32) -> Result<(), NoMem
     end_line(out)
 }
 
-/// A load or a store: its alignment, as a power of two, and its offset. An opcode that is none of one has no line.
+/// A load or a store: its alignment, as a power of two, and its offset. An opcode that is that of neither has no line.
 fn access(out: &mut Vec<u8>, opcode: u8, align: u32, offset: u32) -> Result<(), NoMemory>
     ensures { OnOk result (AddsLines (line (named access_names opcode then u32 align then u32 offset)) out.old.items out.new.items) }
 {

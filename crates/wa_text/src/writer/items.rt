@@ -60,7 +60,7 @@ pub fn function(out: &mut Vec<u8>, func: &Func) -> Result<(), NoMemory>
     expression(out, func.body.as_slice())
 }
 
-/// Locals of one type in a row: the type as often.
+/// A run of locals: its type, once for each.
 fn run(out: &mut Vec<u8>, run: &LocalRun) -> Result<(), NoMemory>
     ensures { OnOk result (AddsWords (each val (replicate run.now.count run.now.ty)) out.old.items out.new.items) }
 {

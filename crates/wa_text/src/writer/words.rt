@@ -20,7 +20,7 @@ pub fn first(out: &mut Vec<u8>, word: &[u8]) -> Result<(), NoMemory>
     Ok(())
 }
 
-/// A word behind another: a blank, and the word.
+/// A word after another: a blank, and the word.
 pub fn word(out: &mut Vec<u8>, word: &[u8]) -> Result<(), NoMemory>
     ensures { OnOk result (AddsWords (form.word word.now) out.old.items out.new.items) }
 {
@@ -52,7 +52,7 @@ pub fn number(out: &mut Vec<u8>, n: u64) -> Result<(), NoMemory>
     word(out, Buffer::new().format(n).as_bytes())
 }
 
-/// The number of a type, a function, a table, a memory, a global, a local or a label.
+/// The index of a type, a function, a table, a memory, a global, a local or a label.
 pub fn index(out: &mut Vec<u8>, n: &u32) -> Result<(), NoMemory>
     ensures { OnOk result (AddsWords (form.u32 n.now) out.old.items out.new.items) }
 {
@@ -96,7 +96,7 @@ pub fn name(out: &mut Vec<u8>, name: &WasmName) -> Result<(), NoMemory>
     bytes(out, name.as_slice())
 }
 
-/// Values one behind another.
+/// Values one after another.
 pub fn each<T, F>(out: &mut Vec<u8>, values: &[T], write: F) -> Result<(), NoMemory>
 where
     F: Fn(&mut Vec<u8>, &T) -> Result<(), NoMemory>,

@@ -1,7 +1,7 @@
 use Rattle.std.proofs.Common.{◌-◌, ◌≤◌, length}
 use Rattle.host_io.proofs.streams.read_full.Given as goal
 
--- the front that is filled is within the buffer
+-- the filled prefix is within the buffer
 abbrev pub invariant-loop-filled : goal.invariant-loop-filled
 invariant-loop-filled g l = l.filled ≤ length l.buffer
 

@@ -5,7 +5,7 @@ use Rattle.std.proofs.KnownBytes.{Appends-kept}
 use Rattle.std.specs.Io.KnownBytes.{Appends}
 use Rattle.host_io.proofs.streams.write_out.Goals as goal
 
--- where only the flush fails all bytes were written
+-- if only the flush fails, all bytes were written
 pub returns-in_err-flush-clause-err : goal.returns-in_err-flush-clause-err
 returns-in_err-flush-clause-err g c =
     let bytes = c.args.bytes.now in

@@ -15,4 +15,5 @@ returns c =
     let with_gen = c.in_ok-subcommand-5.ensures.shape c.in_ok-generate.ensures.1 ∙ ap₂ with_subcommand with_exec (ap top_of c.in_ok-generate.ensures.0) in
     let with_selftest = c.in_ok-subcommand-6.ensures.shape c.in_ok-selftest.ensures.1 ∙ ap₂ with_subcommand with_gen (ap top_of c.in_ok-selftest.ensures.0) in
     let with_listing = c.in_ok-subcommand-7.ensures.shape c.in_ok-listing.ensures.1 ∙ ap₂ with_subcommand with_selftest (ap top_of c.in_ok-listing.ensures.0) in
-    IfOk-weaker c.subcommand-8.result _ _ (λ r h. h.shape c.in_ok-assemble.ensures.1 ∙ ap₂ with_subcommand with_listing (ap top_of c.in_ok-assemble.ensures.0)) c.subcommand-8.ensures
+    let with_assemble = c.in_ok-subcommand-8.ensures.shape c.in_ok-assemble.ensures.1 ∙ ap₂ with_subcommand with_listing (ap top_of c.in_ok-assemble.ensures.0) in
+    IfOk-weaker c.subcommand-9.result _ _ (λ r h. h.shape c.in_ok-dump.ensures.1 ∙ ap₂ with_subcommand with_assemble (ap top_of c.in_ok-dump.ensures.0)) c.subcommand-9.ensures

@@ -1,4 +1,4 @@
--- An element, of which the indices are done behind what has the elements.
+-- An element, of which the indices are done after the expression that has the elements.
 use Rattle.std.proofs.Common.{◌∙◌}
 use Rattle.std.proofs.lemmas.Result.{IfOk-weaker}
 use Rattle.sa_contracts.proofs.TakenAt.{index-taken}

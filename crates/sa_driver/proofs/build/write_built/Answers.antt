@@ -13,4 +13,4 @@ returns-in-Ok-clause-writes g c =
 
 pub returns-in-Err-clause-writes : goal.returns-in-Err-clause-writes
 returns-in-Err-clause-writes g c =
-    none_written _ _ _ _ _ c.args.sources.now c.args.built.now.positions (ap (option_map (λ file. file.now)) c.in-Some.is) refl
+    none_written _ _ _ _ _ c.args.sources.now c.args.built.now.positions _ (ap (option_map (λ file. file.now)) c.in-Some.is) refl c.failed.ensures.internal

@@ -10,7 +10,7 @@ use Rattle.sa_driver.proofs.further.refusal_lines.Goals as goal
 one_more : {X : Type 0} (f : X → List ℕ) (xs : List X) (i : ℕ) (d : X) → i < length xs → flat_map f (take i xs) ++ f (get_or xs i d) ≡ flat_map f (take (i + 1) xs)
 one_more f xs i d less = flat_map_more f [] (take i xs) (get_or xs i d) ∙ ap (flat_map f) (sym (take_more xs i d less))
 
--- what stands for an item that isn't there
+-- the value for an item that isn't there
 abbrev none : Refusal
 none = record { rule = BadByte; pos = record { file = 0; at = 0 } }
 

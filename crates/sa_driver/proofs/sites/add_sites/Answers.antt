@@ -6,7 +6,7 @@ use Rattle.sa_driver.specs.Files.{IsPlaceIn}
 use Rattle.sa_driver.specs.Sites.{site_tokens}
 use Rattle.sa_driver.proofs.sites.add_sites.Goals as goal
 
--- what stands for a position that isn't there
+-- the value for a position that isn't there
 abbrev none : Pos
 none = record { file = 0; at = 0 }
 

@@ -23,6 +23,9 @@ returns-in-Selftest-clause-does g c = rw c.in-Selftest.is (c.selftest.ensures.do
 pub returns-in-Listing-clause-does : goal.returns-in-Listing-clause-does
 returns-in-Listing-clause-does g c = rw c.in-Listing.is (c.listing.ensures.does, ((refl, refl), c.listing.ensures.listening))
 
+pub returns-in-Dump-clause-does : goal.returns-in-Dump-clause-does
+returns-in-Dump-clause-does g c = rw c.in-Dump.is (c.dump.ensures.does, ((refl, refl), c.dump.ensures.listening))
+
 pub returns-in-Help-clause-does : goal.returns-in-Help-clause-does
 returns-in-Help-clause-does g c = rw c.in-Help.is (c.help.ensures.does, ((refl, refl), c.help.ensures.listening))
 

@@ -1,4 +1,4 @@
--- How many branches may still stand one inside the other, and a superblock before the sides that it has.
+-- How many branches may still nest, and a superblock before the sides that it has.
 use Rattle.std.proofs.Common.{◌+◌, ◌*◌}
 use Rattle.sa_emit.proofs.superblock.+superblock.Given as goal
 

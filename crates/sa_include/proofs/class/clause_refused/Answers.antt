@@ -7,7 +7,7 @@ use Rattle.sa_include.specs.Firsts.{do_brought_clash}
 use Rattle.sa_include.proofs.Refusing.{a_clause, brought_conflict, of_this_type, second_array}
 use Rattle.sa_include.proofs.class.clause_refused.Goals as goal
 
--- the clause is there where two brought features conflict, or two clauses bring an array part
+-- the clause is there where two included features conflict, or two clauses include an array part
 pub returns : goal.returns
 returns c =
     let program = c.args.program.now in

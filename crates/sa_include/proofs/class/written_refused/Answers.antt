@@ -4,7 +4,7 @@ use Rattle.sa_include_conflicts.specs.Sharing.{IsFirstConflict, NoConflict}
 use Rattle.sa_include.proofs.Refusing.{a_written}
 use Rattle.sa_include.proofs.class.written_refused.Goals as goal
 
--- the feature at the place of the first conflict is the first written one that is in one
+-- the feature at the index of the first conflict is the first written one that is in one
 pub returns : goal.returns
 returns c =
     let features = c.args.features.now in

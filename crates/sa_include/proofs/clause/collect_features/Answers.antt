@@ -1,7 +1,7 @@
 use Rattle.sa_include.proofs.Refusing.{more_gathered}
 use Rattle.sa_include.proofs.clause.collect_features.Goals as goal
 
--- the refusal of the next clause counts where there is none yet
+-- the refusal of the next clause counts if there is none yet
 pub loop-place-preserved : goal.loop-place-preserved
 loop-place-preserved c =
     more_gathered c.args.class.now.includes c.as_slice-include-items.result.now c.loop-place.place c.include-item.result

@@ -1,7 +1,7 @@
 use Rattle.sa_include.proofs.Resolving.{done_too}
 use Rattle.sa_include.proofs.flattening.accepted_up_to.Goals as goal
 
--- one more class is gone through, and isn't refused
+-- one more class is resolved, and isn't refused
 pub loop-number-preserved : goal.loop-number-preserved
 loop-number-preserved c =
     done_too c.args.resolved.now c.args.from c.loop-number.number c.in_ok-flattened.flattened.now

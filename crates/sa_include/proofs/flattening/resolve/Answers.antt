@@ -4,7 +4,7 @@ use Rattle.sa_include.specs.declared.resolved.Flattened.{Flattened}
 use Rattle.sa_include.proofs.Resolving.{one_more, one_refused}
 use Rattle.sa_include.proofs.flattening.resolve.Goals as goal
 
--- the first class with a refusal is refused, as all before it are gone through
+-- the first class with a refusal is refused, as all before it are resolved
 pub returns-in_err-accepted-clause-refused : goal.returns-in_err-accepted-clause-refused
 returns-in_err-accepted-clause-refused c =
     let classes = c.args.program.now.classes.now in

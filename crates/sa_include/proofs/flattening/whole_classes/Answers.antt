@@ -5,7 +5,7 @@ use Rattle.sa_ast.specs.declared.class.Class.{Class}
 use Rattle.sa_include.specs.Flattened.{AreFlattened, IsFlattened}
 use Rattle.sa_include.proofs.flattening.whole_classes.Goals as goal
 
--- the next class stands behind the others
+-- the next class is after the others
 pub loop-class-preserved : goal.loop-class-preserved
 loop-class-preserved c =
     let classes = c.args.classes.now in

@@ -6,7 +6,7 @@ use Rattle.sa_include_names.specs.Tables.{number_in}
 use Rattle.sa_include.specs.Included.{BringsAll}
 use Rattle.sa_include.proofs.include_trial.try_class.Goals as goal
 
--- the next clause brings all too
+-- the next clause contributes everything too
 pub loop-clause-preserved : goal.loop-clause-preserved
 loop-clause-preserved c =
     let clause = c.clause-item.result in

@@ -2,11 +2,11 @@ use Rattle.std.proofs.Common.{◌+◌, List, take, take_all, subst}
 use Rattle.std.specs.List.{All}
 use Rattle.std.proofs.lemmas.List.Elements.{All-more}
 use Rattle.sa_ast.specs.declared.class.Feature.{Feature}
-use Rattle.sa_types.specs.Table.{put_in}
+use Rattle.sa_subst.specs.Table.{put_in}
 use Rattle.sa_include.specs.Included.{IsInherited}
 use Rattle.sa_include.proofs.include_trial.try_features.Goals as goal
 
--- the next feature is brought too
+-- the next feature is included too
 pub loop-feature-preserved : goal.loop-feature-preserved
 loop-feature-preserved c =
     let bringing = c.args.bringing.now in

@@ -1,6 +1,6 @@
 use Rattle.std.proofs.Common.{take}
 use Rattle.std.specs.List.{All}
-use Rattle.sa_types.specs.Table.{put_in}
+use Rattle.sa_subst.specs.Table.{put_in}
 use Rattle.sa_include.specs.Included.{IsInherited}
 use Rattle.sa_include.proofs.include_trial.try_features.Given as goal
 

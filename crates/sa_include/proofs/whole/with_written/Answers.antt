@@ -5,7 +5,7 @@ use Rattle.sa_include.specs.Flattened.{Wins}
 use Rattle.sa_include.proofs.WrittenLemmas.{wins_copied}
 use Rattle.sa_include.proofs.whole.with_written.Goals as goal
 
--- the copy of the next written feature stands behind the others
+-- the copy of the next written feature is after the others
 pub loop-place-preserved : goal.loop-place-preserved
 loop-place-preserved c =
     let written = c.args.written.now in

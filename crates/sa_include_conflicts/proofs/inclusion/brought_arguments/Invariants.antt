@@ -1,5 +1,5 @@
 use Rattle.std.proofs.Common.{◌≡◌, map, take}
-use Rattle.sa_types.specs.Table.{put_in}
+use Rattle.sa_subst.specs.Table.{put_in}
 use Rattle.sa_include_conflicts.specs.IncludedFeatures.{inherited_argument}
 use Rattle.sa_include_conflicts.proofs.inclusion.brought_arguments.Given as goal
 

@@ -3,7 +3,7 @@ use Rattle.sa_include_conflicts.specs.Staying.{is_body, is_inherited_body}
 use Rattle.sa_include_conflicts.proofs.Replacements.{brought_at, marked_more}
 use Rattle.sa_include_conflicts.proofs.replacement.mark_brought_bodies.Goals as goal
 
--- the next brought feature is marked too where it is no stub and conflicts with no written one that is none
+-- the next included feature is marked too if it is no stub and conflicts with no written one that is none
 pub loop-place-preserved : goal.loop-place-preserved
 loop-place-preserved c =
     let features = c.args.features.now in

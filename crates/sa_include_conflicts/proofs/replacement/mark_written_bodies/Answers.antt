@@ -3,7 +3,7 @@ use Rattle.sa_include_conflicts.specs.Staying.{is_body}
 use Rattle.sa_include_conflicts.proofs.Replacements.{marked_more, written_at}
 use Rattle.sa_include_conflicts.proofs.replacement.mark_written_bodies.Goals as goal
 
--- the next written feature is marked too where it is no stub
+-- the next written feature is marked too if it is no stub
 pub loop-place-preserved : goal.loop-place-preserved
 loop-place-preserved c =
     let features = c.args.features.now in

@@ -5,7 +5,7 @@ use Rattle.sa_include_conflicts.specs.Stub.{is_stub_part}
 use Rattle.sa_include_conflicts.proofs.Replacements.{marked_more, written_at}
 use Rattle.sa_include_conflicts.proofs.replacement.mark_written_stubs.Goals as goal
 
--- the next written feature is marked too where it is a stub and conflicts with none that stays and is none
+-- the next written feature is marked too if it is a stub and conflicts with none that stays and is none
 pub loop-place-preserved : goal.loop-place-preserved
 loop-place-preserved c =
     let features = c.args.features.now in

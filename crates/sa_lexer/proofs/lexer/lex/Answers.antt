@@ -6,7 +6,7 @@ use Rattle.sa_lexer.specs.Tokens.{Follow, IsTokenAt, gap_end, end_of}
 use Rattle.sa_lexer.proofs.TokenLists.{Follow-push, end_of-push}
 use Rattle.sa_lexer.proofs.lexer.lex.Goals as goal
 
--- the token that was read joins the others, and the gap behind it ends at the next place
+-- the token that was read is added to the others, and the gap after it ends at the next position
 pub loop-place-preserved : goal.loop-place-preserved
 loop-place-preserved c =
     let src = c.args.src.now in

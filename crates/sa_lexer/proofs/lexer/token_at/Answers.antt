@@ -6,7 +6,7 @@ use Rattle.sa_lexer.proofs.Longest.{front_longest}
 use Rattle.sa_lexer.proofs.Reach.{ok}
 use Rattle.sa_lexer.proofs.lexer.token_at.Goals as goal
 
--- what is found at the place is the longest token there
+-- what is found at the position is the longest token there
 pub returns-in-Ok-clause-token : goal.returns-in-Ok-clause-token
 returns-in-Ok-clause-token c =
     let src = c.args.src.now in

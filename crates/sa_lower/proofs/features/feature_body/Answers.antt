@@ -1,4 +1,4 @@
--- The statements of the feature are well typed in its scope.
+-- The statements of the feature are well typed in its environment.
 use Rattle.sa_typing.specs.Rows.{rows}
 use Rattle.sa_lower.proofs.Parts.{body_there}
 use Rattle.sa_lower.proofs.features.feature_body.Goals as goal

@@ -1,5 +1,5 @@
 use Rattle.std.proofs.Common.{◌≡◌, map, take}
-use Rattle.sa_types.specs.Table.{put_in}
+use Rattle.sa_subst.specs.Table.{put_in}
 use Rattle.sa_subst.specs.Trees.{expr_with, argument_with}
 use Rattle.sa_subst.proofs.expression.+expression.Given as goal
 

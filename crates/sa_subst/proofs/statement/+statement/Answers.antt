@@ -1,7 +1,7 @@
--- A statement that has other statements for the case that no branch is taken.
+-- A statement with statements for the case that no branch is taken (`else`).
 use Rattle.std.proofs.Common.{arith}
 use Rattle.std.proofs.lemmas.Grind.{common_steps}
-use Rattle.sa_types.specs.Table.{put_in}
+use Rattle.sa_subst.specs.Table.{put_in}
 use Rattle.sa_subst.proofs.Others.{case_with-Some, typecase_with-Some, protect_with-Some}
 use Rattle.sa_subst.proofs.statement.+statement.Goals as goal
 

@@ -1,5 +1,5 @@
 use Rattle.std.proofs.Common.{◌≡◌, map, take}
-use Rattle.sa_types.specs.Table.{put_in}
+use Rattle.sa_subst.specs.Table.{put_in}
 use Rattle.sa_subst.specs.Trees.{stmt_with, arm_with, case_arm_with, type_arm_with}
 use Rattle.sa_subst.proofs.statement.+statement.Given as goal
 

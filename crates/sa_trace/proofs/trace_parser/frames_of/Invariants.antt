@@ -2,7 +2,7 @@ use Rattle.std.proofs.Common.{◌≤◌, ◌-◌, length, take}
 use Rattle.sa_trace.specs.TraceRecords.{AreTraceRecords}
 use Rattle.sa_trace.proofs.trace_parser.frames_of.Given as goal
 
--- the frames so far are the bytes so far
+-- the records so far are the bytes so far
 abbrev pub invariant-loop-frame : goal.invariant-loop-frame
 invariant-loop-frame l = record {
   within : l.at ≤ length l.bytes;

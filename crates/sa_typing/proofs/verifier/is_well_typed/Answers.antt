@@ -1,4 +1,4 @@
--- The view has the rows of the tree.
+-- The view has the tables of the program.
 use Rattle.sa_typing.specs.Rows.{rows}
 use Rattle.sa_typing.proofs.Parts.{by-rows}
 use Rattle.sa_typing.proofs.verifier.is_well_typed.Goals as goal

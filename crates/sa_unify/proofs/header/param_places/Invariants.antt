@@ -1,5 +1,5 @@
 use Rattle.std.proofs.Common.{◌≤◌, length}
-use Rattle.sa_types.specs.Substitution.{HasPlaces}
+use Rattle.sa_subst.specs.Substitution.{HasPlaces}
 use Rattle.sa_unify.proofs.header.param_places.Given as goal
 
 abbrev pub invariant-params : goal.invariant-params

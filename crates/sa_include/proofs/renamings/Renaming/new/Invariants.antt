@@ -1,4 +1,4 @@
-use Rattle.sa_include.proofs.Renamings.{HasChangesUpTo}
+use Rattle.sa_include.proofs.RenamingLemmas.{HasChangesUpTo}
 use Rattle.sa_include.proofs.renamings.Renaming.new.Given as goal
 
 abbrev pub invariant-loop-place : goal.invariant-loop-place

@@ -41,7 +41,7 @@ operand-returns-in-Adding-clause-spelled g t c = rw c.in-Adding.is (IfOk-weaker 
 pub operand-returns-in-Multiplying-clause-spelled : goal.operand-returns-in-Multiplying-clause-spelled
 operand-returns-in-Multiplying-clause-spelled g t c = rw c.in-Multiplying.is (IfOk-weaker c.unary.result _ _ (λ read is. exprs.of_multiplying is) c.unary.ensures.spelled)
 
--- what is read is what the forms read: an operation goes on from operand to operand
+-- what is read is what the forms read: an operation continues from operand to operand
 
 pub operation-returns-in_err-left-clause-exact : goal.operation-returns-in_err-left-clause-exact
 operation-returns-in_err-left-clause-exact g t c =

@@ -23,7 +23,7 @@ returns-then-len-saturating_mul-clause-grows c = λ pages word stack below on wh
           (refl {A = List ℕ}, subst (λ (w : ℕ). OnTop c.give.new.self.region c.give.new.self.height (w ∷ stack) below) answer given));
     }
 
--- the bytes, and so many zeros behind them
+-- the bytes, and so many zeros after them
 resized : (bytes : List ℕ) (len more : ℕ) → len ≡ length bytes + more → take len bytes ++ replicate (len - length bytes) 0 ≡ bytes ++ replicate more 0
 resized bytes len more len_is =
     let count : len - length bytes ≡ more = omega arith in

@@ -1,0 +1,15 @@
+use Rattle.sa_driver.proofs.EndLemmas.{made_of, placed_made}
+use Rattle.sa_driver.proofs.ModuleLemmas.{made_of_tree}
+use Rattle.sa_driver.proofs.compiler.compile_files.Goals as goal
+
+pub returns-clause-module : goal.returns-clause-module
+returns-clause-module g c =
+    rw c.compile_checked.ensures.same (made_of _ _ c.check_files-checked.result.core c.compile_checked.result.«module» c.check_files-checked.ensures.core c.compile_checked.ensures.made c.compile_checked.ensures.fault tt (λ invariant. tt))
+
+pub returns-clause-placed : goal.returns-clause-placed
+returns-clause-placed g c =
+    rw c.compile_checked.ensures.same (placed_made c.check_files-checked.result.sources c.check_files-checked.result.core c.compile_checked.result.«module» c.check_files-checked.ensures.placed c.compile_checked.ensures.fault)
+
+pub returns-clause-tree : goal.returns-clause-tree
+returns-clause-tree g c =
+    made_of_tree c.check_files-checked.result.core c.compile_checked.result.«module» c.compile_checked.ensures.well c.compile_checked.ensures.numbered c.compile_checked.ensures.made

@@ -1,4 +1,0 @@
-pub mod Abstract
-pub mod AtTypes
-pub mod Substitution
-pub mod Table
