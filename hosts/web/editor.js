@@ -22,11 +22,29 @@ function spanOf(name, ...inside) {
   return span;
 }
 
-// A line of a source, highlighted.
-function lineNode(text) {
+// A piece of a line, which begins at a column, cut where one of the places begins or ends. What is in a place is marked.
+function cut([kind, text], at, places) {
+  const ends = places.flat().map((column) => column - at).filter((column) => column > 0 && column < text.length);
+  const cuts = [0, ...new Set(ends), text.length].sort((one, other) => one - other);
+  return cuts.slice(1).map((end, place) => {
+    const isMarked = places.some(([from, to]) => from <= at + cuts[place] && at + end <= to);
+    const names = [kind && `of-${kind}`, isMarked && 'is-place'].filter(Boolean).join(' ');
+    const piece = text.slice(cuts[place], end);
+    return names ? spanOf(names, piece) : piece;
+  });
+}
+
+// A line of a source, highlighted, with these places marked. A place behind its end is marked too.
+function lineNode(text, places = []) {
   const code = text.trimStart();
-  const pieces = piecesOfLine(code).map(([kind, piece]) => (kind ? spanOf(`of-${kind}`, piece) : piece));
-  return spanOf('line', text.slice(0, text.length - code.length), spanOf('code', ...pieces));
+  let at = text.length - code.length;
+  const nodes = [];
+  for (const piece of piecesOfLine(code)) {
+    nodes.push(...cut(piece, at, places));
+    at += piece[1].length;
+  }
+  if (places.some(([, to]) => to > text.length)) nodes.push(spanOf('is-place', ' '));
+  return spanOf('line', text.slice(0, text.length - code.length), spanOf('code', ...nodes));
 }
 
 class Editor {
@@ -34,7 +52,7 @@ class Editor {
     this.area = area;
     this.lines = lines;
     this.texts = [];
-    this.marks = new Map();
+    this.marks = [];
     area.addEventListener('input', ({inputType, data}) => {
       if (inputType === 'insertText' && (data === ';' || data === ' ')) this.stepOut();
       this.draw();
@@ -96,27 +114,51 @@ class Editor {
     this.area.setSelectionRange(at - STEP.length, at - STEP.length);
   }
 
+  // Takes away the marks of a kind, or all.
   clearMarks(kind) {
-    for (const [marked, node] of this.marks) {
-      if (!kind || marked === kind) {
-        node.classList.remove(marked);
-        delete node.dataset.note;
-        this.marks.delete(marked);
-      }
+    const isGone = (mark) => !kind || mark.kind === kind;
+    for (const {kind: marked, node, note, line, places} of this.marks.filter(isGone)) {
+      node.classList.remove(marked);
+      if (note) delete node.dataset.note;
+      if (places.length) node.replaceChildren(...lineNode(this.texts[line - 1]).childNodes);
     }
-    if (!this.marks.has('is-refused')) this.area.removeAttribute('aria-invalid');
+    this.marks = this.marks.filter((mark) => !isGone(mark));
+    if (!this.marks.some((mark) => mark.kind === 'is-refused')) this.area.removeAttribute('aria-invalid');
   }
 
-  // Marks a line, counted from 1, in place of the one that had this mark, and brings it into view.
-  mark(kind, line, note) {
+  // Marks lines, counted from 1, in place of those that had this mark, and brings the first into view. Each may have a note, and places in
+  // it that are marked too.
+  mark(kind, ...rows) {
     this.clearMarks(kind);
-    const node = this.lines.children[line - 1];
-    if (!node) return;
-    node.classList.add(kind);
-    if (note) node.dataset.note = note;
-    if (kind === 'is-refused') this.area.setAttribute('aria-invalid', 'true');
-    this.marks.set(kind, node);
-    this.reveal(node);
+    for (const {line, note = '', places = []} of rows) {
+      const node = this.lines.children[line - 1];
+      if (node) {
+        node.classList.add(kind);
+        if (note) node.dataset.note = note;
+        if (places.length) node.replaceChildren(...lineNode(this.texts[line - 1], places).childNodes);
+        this.marks.push({kind, node, line, note, places});
+      }
+    }
+    if (this.marks.some((mark) => mark.kind === 'is-refused')) this.area.setAttribute('aria-invalid', 'true');
+    const first = this.marks.find((mark) => mark.kind === kind);
+    if (first) this.reveal(first.node);
+  }
+
+  // Puts the cursor to a column of a line.
+  goTo(line, column = 0) {
+    const at = this.texts.slice(0, line - 1).reduce((sum, text) => sum + text.length + 1, column);
+    this.area.focus({preventScroll: true});
+    this.area.setSelectionRange(at, at);
+    if (this.lines.children[line - 1]) this.reveal(this.lines.children[line - 1]);
+  }
+
+  // Puts a text in place of what stands between two places, so that it can be undone by the keys. The focus stays where it is.
+  replace(from, to, text) {
+    const focused = document.activeElement;
+    this.area.focus({preventScroll: true});
+    this.area.setSelectionRange(from, to);
+    document.execCommand(text ? 'insertText' : 'delete', false, text);
+    focused.focus({preventScroll: true});
   }
 
   reveal(node) {

@@ -9,6 +9,7 @@ const LETTER = 7.6;                 // pixels of a letter of a label
 const HUES = 8;                     // colours of page.css for the places of calls
 const BINS = 600;                   // points of the overview
 const PLAYED_EVERY = 450;           // milliseconds from event to event
+const PLAYED_CALMLY = 1500;         // the same for those who like little to move
 
 function drawn(name, attributes, ...inside) {
   const node = document.createElementNS('http://www.w3.org/2000/svg', name);
@@ -55,7 +56,8 @@ class Picture {
     const find = (name) => root.querySelector(`[data-part="${name}"]`);
     this.root = root;
     this.stepped = stepped;
-    [this.lanes, this.overview, this.slider, this.words, this.stack] = ['lanes', 'overview', 'slider', 'words', 'stack'].map(find);
+    [this.lanes, this.overview, this.slider, this.words] = ['lanes', 'overview', 'slider', 'words'].map(find);
+    [this.stack, this.about] = ['stack', 'about'].map(find);
     this.playButton = find('play');
     this.events = [];
     find('first').onclick = () => this.go(0);
@@ -70,10 +72,11 @@ class Picture {
   }
 
   // Shows the events of a trace, from the first one on.
-  show(events, nameOf) {
+  show(events, callOf) {
     this.play(false);
     this.events = events;
-    this.lives = readLives(events, nameOf);
+    this.lives = readLives(events, callOf);
+    this.chosen = null;
     this.alive = countAlive(events);
     this.hues = new Map();
     for (const {file, line, name} of this.lives.slice(1)) {
@@ -103,14 +106,45 @@ class Picture {
     this.slider.setAttribute('aria-valuetext', words);
     this.draw();
     this.drawStack();
+    this.drawChosen();
     this.stepped(event, this.events[now + 1]);
     if (now === this.events.length - 1) this.play(false);
   }
 
   goTo(click) {
     const box = this.lanes.getBoundingClientRect();
-    const column = Math.floor((click.clientX - box.left - this.labelWidth) / this.column);
+    const [x, y] = [(click.clientX - box.left) / this.scale, (click.clientY - box.top + this.lanes.scrollTop) / this.scale];
+    const column = Math.floor((x - this.labelWidth) / this.column);
+    const life = [...this.rows.keys()].find((one) => this.rows.get(one).row === Math.floor((y - TOP) / LANE));
     if (column >= 0) this.go(this.from + column);
+    else if (life) this.choose(life);
+  }
+
+  // Chooses the instance that is told about. Chosen again it is given up, and that of the event is told about, as at first.
+  choose(life) {
+    this.chosen = this.chosen === life ? null : life;
+    this.draw();
+    this.drawStack();
+    this.drawChosen();
+  }
+
+  // What the events tell of the chosen instance at the time of the cursor.
+  drawChosen() {
+    const life = this.chosen ?? this.events[this.at].life ?? this.lives[0];
+    const past = (columns) => columns.filter((column) => column <= this.at).length;
+    const times = (count) => (count === 1 ? 'once' : `${count} times`);
+    const state = stateAt(life, this.at) ?? (this.at < life.first ? 'not started yet' : life.ended === 'quit' ? 'ended' : 'abandoned');
+    const rows = life.inside ? [
+      ['Call', element('code', {}, life.call || life.name), ` in line ${life.line}${life.file.endsWith('prelude') ? ' of the prelude' : ''}`],
+      ['In a loop of', named(life.inside)],
+      ['Started', `by event ${life.first + 1}`],
+      ['Resumed', times(past(life.resumed))],
+      ['Has yielded', times(past(life.yielded))],
+      ['Now', state],
+    ] : [['Now', state]];
+    this.about.replaceChildren(
+      element('h3', {}, this.chosen ? `${named(life)}, chosen` : named(life)),
+      element('dl', {}, ...rows.map(([name, ...what]) => element('div', {}, element('dt', {}, name), element('dd', {}, ...what)))));
   }
 
   // Keys step in the lanes as they do in the slider.
@@ -134,7 +168,8 @@ class Picture {
     this.playButton.textContent = isOn ? 'Pause' : 'Play';
     if (!isOn) return;
     if (this.at === this.events.length - 1) this.go(0);
-    this.clock = setInterval(() => this.go(this.at + 1), PLAYED_EVERY);
+    const isCalm = matchMedia('(prefers-reduced-motion: reduce)').matches;
+    this.clock = setInterval(() => this.go(this.at + 1), isCalm ? PLAYED_CALMLY : PLAYED_EVERY);
   }
 
   // How many instances are alive at each time, over the whole trace.
@@ -154,12 +189,15 @@ class Picture {
   // The instances that run, each called by the one before it, and those that are suspended.
   drawStack() {
     const alive = this.visible.map((life) => [life, stateAt(life, this.at)]).filter(([, state]) => state);
+    const focused = this.stack.contains(document.activeElement) ? document.activeElement.life : null;
     const chip = ([life, state]) => {
-      const node = document.createElement('li');
-      node.className = `chip is-${state} hue-${this.hueOf(life)}`;
-      node.textContent = named(life);
-      node.title = state;
-      return node;
+      const isChosen = this.chosen === life;
+      const words = `${named(life)}, ${state}`;
+      const button = element('button', {type: 'button', 'aria-pressed': isChosen, 'aria-label': words, 'data-part': 'chip'}, named(life));
+      button.onclick = () => this.choose(life);
+      if (life === focused) queueMicrotask(() => button.focus({preventScroll: true}));
+      button.life = life;
+      return element('li', {class: `chip is-${state}${isChosen ? ' is-chosen' : ''} hue-${this.hueOf(life)}`, title: state}, button);
     };
     const running = alive.filter(([, state]) => state !== 'suspended').sort(([one], [other]) => one.depth - other.depth);
     const suspended = alive.filter(([, state]) => state === 'suspended');
@@ -167,7 +205,8 @@ class Picture {
   }
 
   draw() {
-    const width = this.lanes.clientWidth;
+    this.scale = parseFloat(getComputedStyle(this.lanes).getPropertyValue('--scale')) || 1;
+    const width = this.lanes.clientWidth / this.scale;
     this.labelWidth = width < 560 ? 118 : 176;
     if (this.events.length === 0 || width < this.labelWidth) return;
     const room = width - this.labelWidth;
@@ -183,7 +222,9 @@ class Picture {
     for (const life of this.visible) chart.append(this.lane(life));
     columnsInView.forEach((event, place) => chart.append(this.control(event, this.from + place)));
     columnsInView.forEach((event, place) => chart.append(this.mark(event, this.from + place)));
-    const svg = drawn('svg', {width, height, role: 'img', 'aria-label': this.summary()});
+    const svg = drawn('svg', {
+      width: width * this.scale, height: height * this.scale, viewBox: `0 0 ${width} ${height}`, role: 'img', 'aria-label': this.summary(),
+    });
     const clip = drawn('rect', {x: this.labelWidth, y: 0, width: width - this.labelWidth, height});
     svg.append(drawn('defs', {}, drawn('clipPath', {id: 'chart'}, clip)));
     svg.append(chart, this.veil(width, height), this.cursor(height), ...this.visible.map((life) => this.label(life)));
@@ -199,10 +240,10 @@ class Picture {
 
   // Brings the lane of the event into view.
   follow() {
-    const y = this.y(this.events[this.at].life);
+    const [y, margin] = [this.y(this.events[this.at].life) * this.scale, LANE * this.scale];
     const box = this.lanes;
-    if (y < box.scrollTop + LANE) box.scrollTop = y - LANE;
-    else if (y > box.scrollTop + box.clientHeight - LANE) box.scrollTop = y - box.clientHeight + LANE;
+    if (y < box.scrollTop + margin) box.scrollTop = y - margin;
+    else if (y > box.scrollTop + box.clientHeight - margin) box.scrollTop = y - box.clientHeight + margin;
   }
 
   // The middle of a column and of a lane.
@@ -280,7 +321,7 @@ class Picture {
     const number = life.inside ? String(life.number) : '';
     const room = Math.floor((this.labelWidth - 40 - indent) / LETTER) - number.length;
     const name = life.name.length > room ? `${life.name.slice(0, room - 1)}\u2026` : life.name;
-    return drawn('g', {class: `label hue-${this.hueOf(life)} is-${state ?? 'away'}`},
+    return drawn('g', {class: `label hue-${this.hueOf(life)} is-${state ?? 'away'}${this.chosen === life ? ' is-chosen' : ''}`},
       drawn('circle', {cx: 9 + indent, cy: y, r: 4}),
       drawn('text', {x: 18 + indent, y: y + 4}, name),
       drawn('text', {class: 'number', x: this.labelWidth - 13, y: y + 4, 'text-anchor': 'end'}, number));

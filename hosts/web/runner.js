@@ -27,6 +27,13 @@ async function linesThere(source, input) {
   return answer.text();
 }
 
+// The lines that tell all refusals of a source, and what each means.
+async function refusalsThere(source) {
+  const answer = await post('check', {source});
+  if (!answer.ok) throw new Error(await answer.text());
+  return answer.text();
+}
+
 // What a traced run beside the server leaves: its output as bytes, its lines, of each line how many of these bytes stand before it, and
 // the status, which is null where the server ended it.
 async function traceThere(source, input) {
@@ -40,8 +47,9 @@ async function traceThere(source, input) {
 // cause. `stop` ends it.
 class Run {
   constructor(module, input, show) {
-    this.output = new Uint8Array(new SharedArrayBuffer(MOST_OUTPUT));
-    this.counts = new Int32Array(new SharedArrayBuffer(4));
+    const isShared = typeof SharedArrayBuffer !== 'undefined' && self.crossOriginIsolated;
+    this.output = isShared ? new Uint8Array(new SharedArrayBuffer(MOST_OUTPUT)) : null;
+    this.counts = isShared ? new Int32Array(new SharedArrayBuffer(4)) : null;
     this.shown = 0;
     this.show = show;
     this.decoder = new TextDecoder();
@@ -49,26 +57,33 @@ class Run {
     this.ended = new Promise((resolve) => {
       this.resolve = resolve;
     });
-    this.worker.onmessage = ({data}) => this.end(data);
+    this.worker.onmessage = ({data}) => (data.piece ? this.take(data.piece) : this.end(data));
     this.worker.onerror = (error) => this.end({cause: `trap: ${error.message}`});
     this.clock = setTimeout(() => this.end({cause: 'time'}), RUN_SECONDS * 1000);
-    this.looks = setInterval(() => this.look(), SHOWN_EVERY);
-    this.worker.postMessage({module, input: new TextEncoder().encode(input), output: this.output, counts: this.counts});
+    this.looks = isShared ? setInterval(() => this.look(), SHOWN_EVERY) : null;
+    const {output, counts} = this;
+    this.worker.postMessage({module, input: new TextEncoder().encode(input), output, counts, most: MOST_OUTPUT});
+  }
+
+  // Shows bytes that were put out.
+  take(bytes, isLast) {
+    const text = this.decoder.decode(bytes, {stream: !isLast});
+    if (text) this.show(text);
   }
 
   look(isLast) {
     const count = Atomics.load(this.counts, 0);
     // The decoder doesn't take memory that is shared.
-    const text = this.decoder.decode(this.output.slice(this.shown, count), {stream: !isLast});
+    this.take(this.output.slice(this.shown, count), isLast);
     this.shown = count;
-    if (text) this.show(text);
   }
 
   end(how) {
     this.worker.terminate();
     clearTimeout(this.clock);
     clearInterval(this.looks);
-    this.look(true);
+    if (this.counts) this.look(true);
+    else this.take(new Uint8Array(), true);
     this.resolve(how);
   }
 

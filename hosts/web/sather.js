@@ -67,25 +67,73 @@ function piecesOfLine(line) {
 // The header of an iter, whose name is no call.
 const HEADER = /^\s*(?:private\s+)?[A-Za-z]\w*!(?:\([^)]*\))?(?::[^;]*?)?\s+(?:is|pre|post)\b/;
 
-// The names of the iters that a line calls, each after those in its arguments, as calls are evaluated. What is bound isn't called.
-function callsOfLine(line) {
-  const levels = [{names: [], hasIter: false, before: ''}];
-  let before = '';
-  for (const [kind, text] of piecesOfLine(line.replace(HEADER, ''))) {
-    const level = levels.at(-1);
-    if (kind === 'iter') {
-      level.names.push(text);
-      level.hasIter = true;
-    } else if (text === '(') {
-      levels.push({names: [], hasIter: false, before: kind === '' ? before : ''});
-    } else if (text === ')' && levels.length > 1) {
-      levels.pop();
-      if (level.before === 'bind' && level.hasIter) level.names.pop();
-      levels.at(-1).names.splice(level.before.endsWith('!') ? -1 : Infinity, 0, ...level.names);
+// From which piece to which a call stands whose iter is one of the pieces: with what it is called on, and with its arguments.
+function reachOfCall(pieces, at) {
+  const texts = pieces.map(([, text]) => text);
+  const over = (place, step, opens, closes) => {
+    let [depth, here] = [0, place];
+    for (; here >= 0 && here < texts.length; here += step) {
+      depth += opens.includes(texts[here]) ? 1 : closes.includes(texts[here]) ? -1 : 0;
+      if (depth === 0) break;
     }
-    before = text;
+    return here;
+  };
+  const ofLiteral = ['string', 'escape', 'badescape'];
+  const [open, close] = [['(', '[', '{', '|'], [')', ']', '}']];
+  let [first, last] = [at, at];
+  if (texts[at + 1] === '(') last = Math.min(over(at + 1, 1, open, close), texts.length - 1);
+  for (;;) {
+    const before = texts[first - 1] === '.' ? first - 2 : texts[first - 1] === ':' && texts[first - 2] === ':' ? first - 3 : -1;
+    if (before < 0) return [first, last];
+    first = close.includes(texts[before]) ? Math.max(over(before, -1, close, open), 0) : before;
+    if (first > 0 && close.includes(texts[before]) && /^\w+!?$/.test(texts[first - 1])) first -= 1;
+    while (first > 0 && ofLiteral.includes(pieces[first][0]) && ofLiteral.includes(pieces[first - 1][0])) first -= 1;
   }
-  return levels.flatMap(({names}) => names);
 }
 
-if (typeof module !== 'undefined') module.exports = {WORDS, piecesOfLine, callsOfLine};
+// The iters that a line calls, each with its name and the text of the call, and each after those in its arguments, as calls are
+// evaluated. What is bound isn't called.
+function iterCalls(line) {
+  const pieces = piecesOfLine(line.replace(HEADER, ''));
+  const levels = [{calls: [], hasIter: false, before: ''}];
+  let before = '';
+  pieces.forEach(([kind, text], place) => {
+    const level = levels.at(-1);
+    if (kind === 'iter') {
+      const [first, last] = reachOfCall(pieces, place);
+      level.calls.push({name: text, text: pieces.slice(first, last + 1).map(([, piece]) => piece).join('')});
+      level.hasIter = true;
+    } else if (text === '(') {
+      levels.push({calls: [], hasIter: false, before: kind === '' ? before : ''});
+    } else if (text === ')' && levels.length > 1) {
+      levels.pop();
+      if (level.before === 'bind' && level.hasIter) level.calls.pop();
+      levels.at(-1).calls.splice(level.before.endsWith('!') ? -1 : Infinity, 0, ...level.calls);
+    }
+    before = text;
+  });
+  return levels.flatMap(({calls}) => calls);
+}
+
+function callsOfLine(line) {
+  return iterCalls(line).map(({name}) => name);
+}
+
+// The iter that a name is bound to, where the source says it: the name is given a value in one place, by `bind`, and is declared nowhere
+// else. Else null.
+function boundTo(source, name) {
+  const code = source.split('\n').map((line) => piecesOfLine(line).filter(([kind]) => kind !== 'comment').map(([, text]) => text).join(''));
+  const found = [...code.join('\n').matchAll(new RegExp(`(?<![\\w.])${name}\\s*(::=|:=|:(?![:=])|,)`, 'g'))];
+  if (found.length !== 1 || found[0][1] === ',') return null;
+  const behind = code.join('\n').slice(found[0].index);
+  const bound = /^\w+\s*:[^;=]*=\s*bind\(([^;]*)/.exec(behind);
+  if (!bound) return null;
+  let depth = 0;
+  for (const [kind, text] of piecesOfLine(bound[1])) {
+    if (kind === 'iter' && depth === 0) return text;
+    depth += '([{'.includes(text) ? 1 : ')]}'.includes(text) ? -1 : 0;
+  }
+  return null;
+}
+
+if (typeof module !== 'undefined') module.exports = {WORDS, piecesOfLine, callsOfLine, iterCalls, boundTo};

@@ -6,7 +6,6 @@
 
 const EVENT = /^(start|resume|yield|quit|abandon) (.+):(\d+) (\d+)$/;
 const RECORDED = /^(.*?)((?:start|resume|yield|quit|abandon) \S+:\d+ \d+|^\S+:\d+: fault: .*)\r?\n?$/;
-const REFUSAL = /^(.+?):(\d+)(?::(\d+))?: (E\d\d|fault): (.*)$/;
 
 // The events of a trace, and the lines that are none. `shown` has for each line how many bytes of the output stand before it.
 function readTrace(text, shown = []) {
@@ -43,31 +42,16 @@ function partRecorded(text) {
   return {lines: lines.join('\n'), shown, output: output.trim() ? encoder.encode(output) : null};
 }
 
-// The place that a line of the compiler or of a fault tells, or null.
-function readPlace(text) {
-  for (const line of text.split('\n')) {
-    const found = REFUSAL.exec(line);
-    if (found) {
-      return {file: found[1], line: Number(found[2]), column: found[3] ? Number(found[3]) : null, code: found[4], text: found[5]};
-    }
-  }
-  return null;
-}
-
-// What is told behind that line: sentences, without the line of the source that is shown between them.
-function readSentences(text) {
-  const lines = text.trimEnd().split('\n');
-  const behind = lines.slice(lines.findIndex((line) => REFUSAL.test(line)) + 1);
-  return behind.filter((line) => !/^ *\d* \|/.test(line));
-}
-
-// The lives of the instances of a trace. `lives[0]` is the program's own. `nameOf(file, line, place)` names the iter that is called
-// in a line by the call with this place among the line's calls.
+// The lives of the instances of a trace. `lives[0]` is the program's own. `callOf(file, line, place)` is the call in a line with this
+// place among the line's calls: the name of its iter and its text.
 //
-// A life has its number, file, line and name; the life `inside` that has its loop; its first and last column, the latter where it
-// has ended; `ended`, the kind of its last event; its depth; and `spans`, the states that it was in, each from a column on.
-function readLives(events, nameOf) {
-  const program = {number: -1, name: 'main', inside: null, first: 0, last: null, ended: null, depth: 0, spans: []};
+// A life has its number, file, line, name and call; the life `inside` that has its loop; its first and last column, the latter where it
+// has ended; `ended`, the kind of its last event; its depth; the columns in which it was resumed and has yielded; and `spans`, the states
+// that it was in, each from a column on.
+function readLives(events, callOf) {
+  const program = {
+    number: -1, name: 'main', call: '', inside: null, first: 0, last: null, ended: null, depth: 0, resumed: [], yielded: [], spans: [],
+  };
   const lives = [program];
   const byNumber = new Map();
   const stack = [program];
@@ -89,9 +73,10 @@ function readLives(events, nameOf) {
     const site = `${inside.number} ${event.file}:${event.line}`;
     const place = alive.get(site) ?? 0;
     alive.set(site, place + 1);
+    const {name, text} = callOf(event.file, event.line, place);
     const life = {
-      number: event.number, file: event.file, line: event.line, name: nameOf(event.file, event.line, place), site, inside,
-      first: column, last: null, ended: null, depth: inside.depth + 1, spans: [],
+      number: event.number, file: event.file, line: event.line, name, call: text, site, inside, first: column, last: null, ended: null,
+      depth: inside.depth + 1, resumed: [], yielded: [], spans: [],
     };
     lives.push(life);
     byNumber.set(event.number, life);
@@ -103,6 +88,8 @@ function readLives(events, nameOf) {
     if (!life) return;
     event.life = life;
     event.from = stack.at(-1);
+    if (event.kind === 'resume') life.resumed.push(column);
+    if (event.kind === 'yield') life.yielded.push(column);
     if (event.kind === 'start' || event.kind === 'resume') {
       enter(stack.at(-1), 'waiting', column);
       enter(life, 'running', column);
@@ -143,4 +130,4 @@ function countAlive(events) {
   });
 }
 
-if (typeof module !== 'undefined') module.exports = {readTrace, partRecorded, readPlace, readSentences, readLives, stateAt, countAlive};
+if (typeof module !== 'undefined') module.exports = {readTrace, partRecorded, readLives, stateAt, countAlive};

@@ -2,18 +2,61 @@
 
 Out and err are one pipe, which keeps the order. The source lies in a file whose name the program can't know, so that what has this name
 in it is a line of the trace, and no output that looks like one."""
+from __future__ import annotations
+
+import contextlib
 import dataclasses
 import itertools
 import os
 import re
 import secrets
+import signal
 import subprocess
 import tempfile
 import threading
 
+RUNNING = set()     # the processes that were started here and haven't ended
+ENDING = threading.Event()
+CHANGING = threading.Lock()
+
 PIECE = 1 << 16     # bytes that are read at once
 LINE = rb'((?:start|resume|yield|quit|abandon) (?:%b|prelude):\d+ \d+\n|(?:(?:%b|prelude):\d+[^\n]*|%b)\n\Z)'
 ENDS = {122: b'fuel spent', 125: b'out of memory'}      # the lines without a place that a run ends with, by their status
+
+
+@contextlib.contextmanager
+def started(words, **how):
+    """A process that is ended with this block, and by `end_all`. It is a group of its own, so that what it starts ends with it."""
+    with CHANGING:
+        if ENDING.is_set():
+            raise ConnectionAbortedError('the server ends')
+        process = subprocess.Popen(words, start_new_session=True, **how)
+        RUNNING.add(process)
+    try:
+        yield process
+    finally:
+        end(process)
+        for stream in (process.stdin, process.stdout, process.stderr):
+            if stream:
+                stream.close()
+        process.wait()
+        with CHANGING:
+            RUNNING.discard(process)
+
+
+def end(process):
+    """Ends a process and what it has started."""
+    with contextlib.suppress(ProcessLookupError):
+        if process.returncode is None:
+            os.killpg(process.pid, signal.SIGKILL)
+
+
+def end_all():
+    """Ends what was started, and has nothing be started any more."""
+    with CHANGING:
+        ENDING.set()
+        for process in RUNNING:
+            end(process)
 
 
 @dataclasses.dataclass
@@ -62,12 +105,12 @@ def traced(words, name, source, given, most):
             with open(os.path.join(folder, file_name), 'wb') as file:
                 file.write(text)
         with open(os.path.join(folder, 'input'), 'rb') as put_in, \
-                subprocess.Popen([*words, hidden], cwd=folder, stdin=put_in, stdout=subprocess.PIPE, stderr=subprocess.STDOUT) as run:
-            clock = threading.Timer(most.seconds, run.kill)
+                started([*words, hidden], cwd=folder, stdin=put_in, stdout=subprocess.PIPE, stderr=subprocess.STDOUT) as run:
+            clock = threading.Timer(most.seconds, end, [run])
             clock.start()
             text, is_cut = put_by(run, hidden.encode(), most)
             if is_cut:
-                run.kill()
+                end(run)
             run.wait()
             clock.cancel()
     status = None if is_cut or run.returncode < 0 else run.returncode
