@@ -1,7 +1,7 @@
 # Completion of the words of sather in bash.
 _sather() {
   local word=${COMP_WORDS[COMP_CWORD]} before=${COMP_WORDS[COMP_CWORD - 1]} options='' endings='*.sa'
-  local commands='run build check exec gen selftest listing assemble help version explain lib'
+  local commands='run build check exec gen selftest listing assemble dump help version explain lib'
   COMPREPLY=()
   if [ "$COMP_CWORD" -eq 1 ]; then
     mapfile -t COMPREPLY < <(compgen -W "$commands" -- "$word")
@@ -14,6 +14,7 @@ _sather() {
     exec) options='--fuel --pages --stats --explain' endings='*.wasm' ;;
     listing) endings='*.wasm' ;;
     assemble) options='-o' endings='*' ;;
+    dump) options='--ast --typed --cfg --regions --contracts --all --explain' ;;
     help)
       mapfile -t COMPREPLY < <(compgen -W "$commands" -- "$word")
       return
