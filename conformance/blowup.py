@@ -1,4 +1,6 @@
 """What a blow-up is: a small input that is built to cost much, and the answers that it may have."""
+from __future__ import annotations
+
 import dataclasses
 import typing
 

@@ -25,6 +25,7 @@ os.execvp(sys.argv[3], sys.argv[3:])
 KEYS = {
     'Enter': ('Enter', 13, '\r'), 'Tab': ('Tab', 9, ''), 'ArrowLeft': ('ArrowLeft', 37, ''), 'ArrowRight': ('ArrowRight', 39, ''),
     'ArrowDown': ('ArrowDown', 40, ''), 'Home': ('Home', 36, ''), 'End': ('End', 35, ''), ' ': ('Space', 32, ' '), 'a': ('KeyA', 65, 'a'),
+    'Backspace': ('Backspace', 8, ''), 'Escape': ('Escape', 27, ''),
 }
 SHIFT, CONTROL = 8, 2
 

@@ -1,4 +1,6 @@
 """Compares what the program says of a module with V8 and wabt."""
+from __future__ import annotations
+
 import dataclasses
 
 import judges

@@ -5,7 +5,7 @@ Compares docs/ERRORS.md with what the program tells. Each line on err that the p
 (Rules.antt, Faults.antt) and of sa_driver (Lines.antt, Status.antt), has one section of the page, which begins with the line and its
 status, and the page's contents lead to it. A section has a program or a command line that gives its line, and one that ends well;
 each is run in a folder of its own, and has to leave exactly what the page says behind it. --only takes the sections whose names
-hold a word."""
+hold a word. An internal error is the compiler's own, so that its section has no program that gives its line."""
 import functools
 import os
 import re
@@ -14,8 +14,9 @@ import sys
 import report
 
 PAGE = 'docs/ERRORS.md'
+NAMES = {'FILE': r'[\w.]+', 'NAME': r"[\w' ]+"}
 CODES = re.compile(r'codes "((?:[^"\\]|\\.)*)"')
-PIECE = re.compile(r'(about_place)|(about_file)|\b(file) \+\+|decimal (\w+)|\b((?:rule|fault)_text)\b|' + CODES.pattern)
+PIECE = re.compile(r'(about_place)|(about_file)|\b(file) \+\+|decimal (\w+)|\b((?:rule|fault)_text)\b|invariant_(name)|' + CODES.pattern)
 SECTION = re.compile(r'^### (.*)\n\n`(.*)`, status (\d+)\b', re.M)
 BLOCK = re.compile(r'^```(.*)\n((?:(?!```).*\n)*)```\n((?:(?!```|#).*\n)*)', re.M)
 BEHIND = re.compile(r'(gives|prints|is accepted|ends well)(?: with `(--[^`]*)`)?(?: `([^`]*)`)?')
@@ -26,19 +27,19 @@ class Line:
 
     def __init__(self, form, status):
         self.form, self.status = form.replace('{', '').replace('}', ''), status
-        self.pattern = re.compile(re.sub(r'\\{(\w+)\\}', lambda name: r'[\w.]+' if name[1] == 'FILE' else r'\d+', re.escape(form)))
+        self.pattern = re.compile(re.sub(r'\\{(\w+)\\}', lambda name: NAMES.get(name[1], r'\d+'), re.escape(form)))
 
 
 def forms(expression, texts):
     """The forms of the line that an expression of Lines.antt spells, each with what differs in braces: one for each text of the
     rules or the faults, where the expression speaks of these."""
     found = ['']
-    for place, of_file, file, number, family, text in PIECE.findall(expression):
+    for place, of_file, file, number, family, name, text in PIECE.findall(expression):
         if family:
             found = [form + each for form in found for each in texts[family]]
         else:
             piece = '{FILE}:{LINE}: ' if place else '{FILE}: ' if of_file else '{FILE}' if file else text.removesuffix(r'\n')
-            found = [form + (piece or '{%s}' % number.upper()) for form in found]
+            found = [form + (piece or '{%s}' % (number or name).upper()) for form in found]
     return found
 
 
@@ -142,6 +143,8 @@ def fault_of(section, known, contents):
         return 'its heading isn\'t a part of its line'
     if '](%s)' % section.anchor() not in contents:
         return 'the contents don\'t lead to it'
+    if section.status == report.INTERNAL_ERROR:
+        return 'it has examples' if section.examples else None
     if not any(example.verb == 'gives' and line.pattern.fullmatch(example.told or '') for example in section.examples):
         return 'none of its examples gives its line'
     if not any(example.verb not in ('gives', None) for example in section.examples):

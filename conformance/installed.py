@@ -25,8 +25,9 @@ BASH = os.path.join(report.TOP, 'completions', 'sather.bash')
 ZSH = os.path.join(report.TOP, 'completions', '_sather')
 USAGE = 124
 VALUES = {'--fuel': ['1000'], '--pages': ['9'], '--room': ['64'], '--stats': [], '--contracts': [], '--trace': [], '--all': [],
-          '--explain': [], '--sites': ['sites'], '-o': ['out']}
+          '--ast': [], '--typed': [], '--cfg': [], '--regions': [], '--explain': [], '--sites': ['sites'], '-o': ['out']}
 OWN = {'gen': ['3'], 'selftest': ['3'], 'help': ['run'], 'version': [], 'explain': ['E33'], 'lib': ['fmap']}
+FORMS = ('--ast', '--typed', '--cfg', '--regions')
 HELLO = b'class MAIN is main is #OUT + "Hello\\n"; end; end;'
 # Prints what bash offers for the last of the words.
 IN_BASH = 'source "$0"; COMP_WORDS=("$@"); COMP_CWORD=$(($# - 1)); _sather; printf "%s\\n" "${COMPREPLY[@]}"'
@@ -75,12 +76,19 @@ def help_differs(program):
     return None
 
 
+def needed_by(command, option):
+    """What a command needs beside an option and its own words."""
+    if command in ('build', 'assemble') and option != '-o':
+        return ['-o', 'out']
+    return ['--ast'] if command == 'dump' and option not in FORMS else []
+
+
 def options_differ(program, command):
     """Which options the command takes against the synopsis, or the other way round, or None."""
     own, taken = OWN.get(command, ['f.sa']), []
     with report.folder_with({'f.sa': HELLO}) as folder:
         for option, value in VALUES.items():
-            needed = ['-o', 'out'] if command in ('build', 'assemble') and option != '-o' else []
+            needed = needed_by(command, option)
             if report.run([program, command, option, *value, *needed, *own], folder).status != USAGE:
                 taken.append(option)
     given = synopsis()[command]
@@ -96,7 +104,7 @@ def page_differs():
             return '%s: expected %s, and came %s' % (section, wanted, found)
     statuses = set(re.findall(r'^\.TP\n(\d+)', sections()['EXIT STATUS'], re.M))
     tables = report.text_of('docs', 'LANGUAGE.md') + report.text_of('docs', 'WEBASSEMBLY.md')
-    of_docs = set(re.findall(r'^\|(?:[^|]*\|)? (12\d) \|', tables, re.M))
+    of_docs = set(re.findall(r'^\|(?:[^|]*\|)? (70|12\d) \|', tables, re.M))
     return None if statuses == of_docs else 'the page has the statuses %s, and docs/ %s' % (sorted(statuses), sorted(of_docs))
 
 
@@ -120,7 +128,7 @@ def zsh_differs():
         return 'expected the commands %s, and came %s' % (list(synopsis()), commands)
     for command, options in synopsis().items():
         line = re.search(r'^  (?:\w+\|)?%s(?:\|\w+)?\) (.*) ;;$' % command, text, re.M).group(1)
-        found = re.findall(r'\$(fuel|pages|room|stats|contracts|trace|all|explain)\b|\'(-o|--sites)\[', line)
+        found = re.findall(r'\$(fuel|pages|room|stats|contracts|trace|all|ast|typed|cfg|regions|explain)\b|\'(-o|--sites)\[', line)
         if ['--' + name if name else other for name, other in found] != options:
             return '%s: expected the options %s, and came the line %s' % (command, options, line)
     return None

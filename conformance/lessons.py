@@ -19,7 +19,7 @@ def program(text):
 def go_to_source(page):
     """Goes from the list of programs to the source by the Tab key."""
     page.value('picker.focus()')
-    page.press('Tab', count=2 + page.value('Number(traceButton.checkVisibility())'))
+    page.press('Tab', count=5 + page.value('Number(traceButton.checkVisibility())'))
     expect('what has the keys', 'source', page.value('document.activeElement.id'))
 
 
@@ -69,6 +69,11 @@ def first_loop(page):
     expect('the program', text, page.value('editor.text'))
     run(page, '1 squared is 1\n2 squared is 4\n3 squared is 9\ndone\n')
     show(page, ['main', 'upto! 0'])
+    step_through_loop(page)
+
+
+def step_through_loop(page):
+    """Steps through the first loop, and a step back at its end."""
     expect('the event', ['the call in line 4 starts upto! 0.', ''], page.value(EVENT))
     resumed = ('the call in line 4 resumes upto! 0.', '')
     yields = 'upto! 0 yields to main, and is suspended.'
@@ -83,6 +88,11 @@ def walk(page):
     run(page, '1 3 4 5 7 8 9 \n')
     page.press('Enter', CONTROL | SHIFT)
     page.wait('!runButton.disabled && document.activeElement === picture.lanes')
+    step_back_from_root(page)
+
+
+def step_back_from_root(page):
+    """Steps from the end of the walk back to where its last value begins to climb."""
     step(page, 'End', ('walk! 1 ends, and its loop with it.', '\n'))
     page.press('ArrowLeft', count=5)
     step(page, 'ArrowLeft', ('walk! 1 yields to main, and is suspended.', '9 '), ('walk! 5 yields to walk! 1, and is suspended.', ''),
@@ -99,13 +109,18 @@ def two_sites(page):
     expect('the line that is marked', 0, page.value(MARKED))
     run(page, 'aa bb cc dd \n')
     show(page, ['main', 'elt! 0', 'elt! 1'])
-    step(page, 'ArrowRight', ('elt! 0 yields to main, and is suspended.', 'a'), ('the call in line 3 starts elt! 1.', ''),
-         ('elt! 1 yields to main, and is suspended.', 'a '))
+    step_through_sites(page)
     type_program(page, program('pairs!(once text:STR)'))
     expect('whether it is told that the picture is an old one', True, page.value("byId('stale').checkVisibility()"))
     run(page, 'ab cd \n')
     show(page, ['main', 'pairs! 0', 'elt! 1'])
     expect('whether it is told that the picture is an old one', False, page.value("byId('stale').checkVisibility()"))
+
+
+def step_through_sites(page):
+    """Steps through the first round, in which each site starts an instance."""
+    step(page, 'ArrowRight', ('elt! 0 yields to main, and is suspended.', 'a'), ('the call in line 3 starts elt! 1.', ''),
+         ('elt! 1 yields to main, and is suspended.', 'a '))
 
 
 LESSONS = [

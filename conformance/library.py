@@ -3,8 +3,9 @@
 
 Tries the library:
 
-- lib/tests/NAME.sa, run with lib/NAME.sa and with lib/tests/NAME.in as its input where that is there, has to print
-  lib/tests/NAME.out, tell nothing on err and end with status 0, plainly and with `--contracts`; each file of lib/ has such a test;
+- lib/tests/NAME.sa, run with lib/NAME.sa, the files that its head says to stand beside it, and lib/tests/NAME.in as its input where
+  that is there, has to print lib/tests/NAME.out, tell nothing on err and end with status 0, plainly and with `--contracts`; each file of
+  lib/ has such a test;
 - the example at the head of each file, run with the same input, prints what stands behind its lines, blanks and line feeds aside;
 - docs/LIBRARY.md has the classes of the prelude and of lib/ in the sections of their files, and of each class the features that
   aren't private, no more and no fewer, with the heads that stand in the sources.
@@ -33,13 +34,15 @@ TOKEN = re.compile(r'--.*|"(?:\\.|[^"\\])*"|\'(?:\\.|[^\'\\])[0-7]*\'|\$?\w+!?|:
 BEGINS, ENDS = {'is', 'if', 'loop', 'case', 'typecase', 'protect'}, {'end'}
 # The words behind which no head of a feature goes on.
 BEHIND_HEAD = {'pre', 'post', 'is', ';'}
+# In the head of a file: those that stand beside it.
+BESIDE = re.compile(r'((?:\w+\.sa(?:, | and )?)+) (?:stand|stands) beside this file')
 # On the page: the section of a file, the heading of a class, and a row with heads of features in its first place.
 SECTION = re.compile(r'## .*?`([^`]*)`')
 CLASS = re.compile(r'### `([^`]*)`')
 ROW = re.compile(r'\| (`[^|]*`) \| .')
 CODE = re.compile(r'`([^`]*)`')
 # A line of the example at the head of a file, and what it says of what is printed.
-EXAMPLE = re.compile(r'--    (.*)')
+EXAMPLE = re.compile(r'    (.*)')
 PRINTED = re.compile(r'\s-- (.*)')
 
 
@@ -127,10 +130,22 @@ def page_difference(of_source, of_page):
     return '; '.join(wrong) or None
 
 
+def head(name):
+    """The lines of the comment that a file of the library begins with, without their marks."""
+    lines = report.text_of(os.path.join(LIB, name + '.sa')).splitlines()
+    return [line.removeprefix('--') for line in itertools.takewhile(lambda line: line.startswith('--'), lines)]
+
+
+def beside(name):
+    """The files that stand beside a file of the library, by the comment that it begins with."""
+    match = BESIDE.search(' '.join(' '.join(head(name)).split()))
+    return re.findall(r'\w+\.sa', match.group(1)) if match else []
+
+
 def left_by(program, test, name, options):
     """What a program leaves that is run with a file of the library, and with the input of this file's test."""
     given = bytes_of(os.path.join(TESTS, name + '.in')) or b''
-    files = {'test.sa': test, name + '.sa': bytes_of(os.path.join(LIB, name + '.sa'))}
+    files = {'test.sa': test, **{file: bytes_of(os.path.join(LIB, file)) for file in [name + '.sa', *beside(name)]}}
     with report.folder_with(files) as folder:
         return report.run([program, 'run', *options, *files], folder, input=given)
 
@@ -149,8 +164,7 @@ def test_difference(program, name):
 
 def example_difference(program, name):
     """What differs in the example at the head of a file, or None. One that says nothing of what it prints may print anything."""
-    head = itertools.takewhile(lambda line: line.startswith('--'), report.text_of(os.path.join(LIB, name + '.sa')).splitlines())
-    lines = [match.group(1) for line in head if (match := EXAMPLE.match(line))]
+    lines = [match.group(1) for line in head(name) if (match := EXAMPLE.match(line))]
     if not lines:
         return 'there is no example at its head'
     program_of_it = 'class MAIN is main is\n%s\nend; end;\n' % '\n'.join(lines)

@@ -1,8 +1,8 @@
 #!/usr/bin/env python3
 """pages.py: compares the examples of docs/ with the table of cases.
 
-Each block of docs/LANGUAGE.md, docs/ITERS.md and docs/MOVING.md that has a class MAIN is the program of a case in the folder
-`manual` of the table, and what the page says behind it is what the case wants: what it prints, the fault that stops it, the
+Each block of docs/LANGUAGE.md, docs/ITERS.md, docs/MOVING.md and docs/ROOM.md that has a class MAIN is the program of a case in the
+folder `manual` of the table, and what the page says behind it is what the case wants: what it prints, the fault that stops it, the
 code that refuses it, or that it is accepted. Each case of that folder is an example of a page."""
 import re
 import sys
@@ -10,7 +10,7 @@ import sys
 import cases
 import report
 
-PAGES = ['LANGUAGE.md', 'ITERS.md', 'MOVING.md']
+PAGES = ['LANGUAGE.md', 'ITERS.md', 'MOVING.md', 'ROOM.md']
 FENCE = re.compile(r'^```.*\n', re.M)
 PRINTS_TEXT = re.compile(r'\nprints `([^`]*)`')
 PRINTS_AND_TELLS = re.compile(r'\nprints `([^`]*)`, and with `--trace` it tells\s*')

@@ -12,8 +12,10 @@ import subprocess
 import sys
 
 import browser
+import packed
 import pages
 import report
+import serving
 import web
 
 FOLDER = os.path.join(report.TOP, 'docs', 'pictures')
@@ -56,6 +58,22 @@ def refusal(page):
     web.run(page)
 
 
+def packed_lesson(name, number, event):
+    """A page of a folder that `pack` has made: a lesson with one of its programs at an event."""
+    def shown(page, address):
+        page.open('%s/%s.html' % (address, name))
+        page.wait('editor.text')
+        page.value("byId('reading').querySelectorAll('.listing button')[%d].click(), picture.go(%d), picture.lanes.focus(), scrollTo(0, 0)"
+                   % (number, event - 1))
+    return shown
+
+
+# Of a picture of the folder: its name, the size of the window, and what is shown.
+OF_FOLDER = [
+    ('lesson-loop', WIDE, packed_lesson('lesson-the-first-loop', 0, 4)),
+    ('lesson-walk', WIDE, packed_lesson('lesson-iters-in-iters', 1, 55)),
+    ('lesson-sites', WIDE, packed_lesson('lesson-two-sites-are-two-instances', 0, 4)),
+]
 # Of a picture: its name, the size of the window, whether it is dark, and what is shown.
 PICTURES = [
     ('wide', WIDE, False, example('fringe', 25)),
@@ -67,8 +85,9 @@ PICTURES = [
 ]
 
 
-def keep(name, picture):
-    """Writes a picture, as small as the tools that are there make it."""
+def keep(name, page):
+    """Writes a picture of what is in the window, as small as the tools that are there make it."""
+    picture = base64.b64decode(page.ask('Page.captureScreenshot', format='png')['data'])
     path = os.path.join(FOLDER, name + '.png')
     with open(path, 'wb') as file:
         file.write(picture)
@@ -89,14 +108,20 @@ def main():
     given = words.parse_args()
     os.makedirs(FOLDER, exist_ok=True)
     are_small = True
-    with web.served(os.path.abspath(given.program)) as address, browser.Browser() as page:
+    with serving.served(os.path.abspath(given.program)) as address, browser.Browser() as page:
         for name, size, is_dark, shown in PICTURES:
             if given.only in name:
                 page.size(*size, touch=size == NARROW)
                 page.dark(is_dark)
                 page.open(address)
                 shown(page)
-                are_small &= keep(name, base64.b64decode(page.ask('Page.captureScreenshot', format='png')['data']))
+                are_small &= keep(name, page)
+    with packed.folder(os.path.abspath(given.program)) as site, packed.hosted(site) as address, browser.Browser() as page:
+        for name, size, shown in OF_FOLDER:
+            if given.only in name:
+                page.size(*size)
+                shown(page, address)
+                are_small &= keep(name, page)
     return 0 if are_small else 1
 
 

@@ -29,7 +29,7 @@ PRODUCTIONS = {relation.strip('[]'): name for name, relation in RELATIONS.items(
 # Relations that only clauses of functions cite, which read something else than a production or a part of one.
 OF_CLAUSES = {'IsName', 'IsForm', 'ContinuesTexts', 'GivesMode'}
 # What the page says in prose: where a form stands, in arguments of these types, and a premise in each of these constructors.
-AROUND = {'Scope', 'Around', 'CallableKind', 'Enclosing', 'FileKind'}
+AROUND = {'ConditionScope', 'Enclosure', 'CallableKind', 'Enclosing', 'FileKind'}
 IN_PROSE = {
     ('IsMode', 'once_word'): 'callable ≡ Iter',                     # `once` is a mode of the arguments of iters
     ('IsClauses', 'given'): 'file_kind ≡ Program',                  # the prelude has no clauses
@@ -131,6 +131,8 @@ class Definitions:
 
     def __init__(self, empty):
         self.relations, self.spellings, self.empty = relations(OF_CLAUSES), spellings(), empty
+        if unknown := AROUND - {of for relation in self.relations.values() for of in relation.types}:
+            raise Unreadable('`%s`, which no relation has an argument of' % min(unknown))
         self.used, self.unread = set(), []
 
     def production(self, name):

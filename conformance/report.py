@@ -12,6 +12,7 @@ import tempfile
 import time
 
 TOP = os.path.join(os.path.dirname(os.path.abspath(__file__)), '..')
+INTERNAL_ERROR = 70         # the status that no input may have: an invariant of the compiler is broken
 SECONDS = 120       # the most that a run of the program may take
 SHOWN = 300         # bytes of a text that are shown
 BEFORE = 40         # of these before the first byte that differs

@@ -5,8 +5,8 @@ Compares programs compiled by PROGRAM with their meaning, and the machine steps 
 
 The programs are those of the table of cases with the words `run ..`, no failing device, no flag `--contracts` and an accepted
 source, the examples, some that spend turns with little else to do, and N random ones, 100 without --count, from the number S on
-(see random_programs.py). TREE is the program `dump_typed`, whose tree meaning.py runs. `PROGRAM run --stats` has to leave the output and the end of that run, the same status or the same fault in the
-same line, and the steps have to be
+(see random_programs.py). TREE is the program `dump_typed`, whose tree meaning.py runs. `PROGRAM run --stats` has to leave the output
+and the end of that run, the same status or the same fault in the same line, and the steps have to be
 
 - at least as many as the turns, and
 - at most K times one more than the turns, where K is the program's bound: 1000, and a million times one more than the nodes and

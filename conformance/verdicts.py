@@ -8,6 +8,7 @@ import os
 import judges
 import kept
 import programs
+import report
 
 SECONDS = 10                # of a processor
 PATIENCE = 3_600            # seconds by the clock: a machine that has other work may let an answer wait for long
@@ -67,6 +68,7 @@ class Host:
 
     def ended(self, left, words):
         require(left.status >= 0, 'it ends by itself', 'signal %d at %s' % (-left.status, ' '.join(words)))
+        require(left.status != report.INTERNAL_ERROR, 'no invariant of the compiler is broken', left.lines)
         return left
 
     def dump_typed(self, name):

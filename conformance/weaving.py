@@ -3,6 +3,8 @@ results and for what was at the start. The source has to be one of the grammar.
 
 What is woven has the lines of the source, so that a place outside the contracts is told by the same line. `blanked` is the source
 without contracts, with blanks in their places."""
+from __future__ import annotations
+
 import dataclasses
 
 import source_reader

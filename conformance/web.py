@@ -4,32 +4,29 @@
 Tries the page of hosts/web, which `serve` serves with the program:
 
 - what the server refuses, which needs no browser;
-- that examples.js is what `gather` writes;
+- that the scripts which `gather` writes are as it writes them;
 - in a Chromium without a window: programs that are typed, run, refused, stopped, and end by themselves; each example, with its
   output; the picture of live iters and its steps; the page on a narrow screen, in the dark and by keyboard alone; three lessons
-  (lessons.py); and the page as a file that is opened.
+  (lessons.py); the page as a file that is opened; and a folder that `pack` has made (packed.py).
 
 --pictures keeps pictures of the page in a folder. --only takes the tries whose names hold a word. Where there is no Chromium, the
 tries in it are left out, and that is told."""
 import argparse
-import contextlib
-import functools
-import http.client
-import importlib.machinery
-import importlib.util
+import importlib
 import os
-import socket
-import subprocess
 import sys
-from urllib.parse import urlsplit
 
 import browser
 import examples
 import lessons
+import marks
+import packed
+import reading
 import report
+import serving
 from browser import expect
 
-WEB = os.path.realpath(os.path.join(os.path.dirname(os.path.abspath(__file__)), '..', 'hosts', 'web'))
+WEB = serving.WEB
 CONTROL, SHIFT = browser.CONTROL, browser.SHIFT
 COUNTS = 'class MAIN is\nmain is\nloop #OUT + 1.upto!(3) + " "; end;\nend;\nend;\n'
 INDENTED = 'class MAIN is\n   main is\n      loop\n         #OUT + 1.upto!(3) + " ";\n      end;\n   end;\nend;\n'
@@ -104,28 +101,15 @@ FOCUSED = '''(() => {
   return [name, style.outlineStyle !== 'none' && parseFloat(style.outlineWidth) > 0];
 })()'''
 # What the Tab key comes to, in its order.
-STOPS = ['example', 'run', 'trace', 'source', 'input', 'output', 'first', 'back', 'forward', 'last', 'play', 'slider', 'lanes', 'SUMMARY']
+STOPS = ['example', 'lesson', 'run', 'trace', 'copy', 'large', 'source', 'SUMMARY', 'input', 'output', 'first', 'back', 'forward', 'last',
+         'play', 'slider', 'chip', 'chip', 'chip', 'lanes', 'SUMMARY']
 
 
-def gather():
-    """The script `gather` as a module."""
-    loader = importlib.machinery.SourceFileLoader('gather', os.path.join(WEB, 'gather'))
-    module = importlib.util.module_from_spec(importlib.util.spec_from_loader('gather', loader))
+def gathering():
+    """The module of hosts/web that `gather` uses."""
     sys.dont_write_bytecode = True
     sys.path.append(WEB)
-    loader.exec_module(module)
-    return module
-
-
-@contextlib.contextmanager
-def served(program):
-    """The address of the page, which is served meanwhile."""
-    words = [sys.executable, os.path.join(WEB, 'serve'), '--port', '0', program]
-    with subprocess.Popen(words, stdout=subprocess.PIPE, text=True) as server:
-        try:
-            yield server.stdout.readline().strip()
-        finally:
-            server.terminate()
+    return importlib.import_module('gathering')
 
 
 def traces(program):
@@ -134,66 +118,9 @@ def traces(program):
         return report.run([program, 'run', '--trace', 'f.sa'], folder).status == 0
 
 
-# The server, without a browser.
-
-def status_of(address, method, path, body=b'', **headers):
-    """The status that the server answers a request with."""
-    connection = http.client.HTTPConnection(urlsplit(address).netloc, timeout=report.SECONDS)
-    with contextlib.closing(connection):
-        connection.request(method, path, body, {name.replace('_', '-'): value for name, value in headers.items()})
-        return connection.getresponse().status
-
-
-JSON = {'Content_Type': 'application/json'}
-OUTSIDE_NAME = 'other machines don\'t reach the server'
-# A name, the request, and the status of the answer.
-REQUESTS = [
-    ('the page is served', ('GET', '/'), {}, 200),
-    ('what is no file of the page isn\'t served', ('GET', '/serve'), {}, 404),
-    ('a name that leads out of the folder is no page', ('GET', '/../../README.md'), {}, 404),
-    ('a request that names another host is refused', ('GET', '/'), {'Host': 'example.org'}, 404),
-    ('another page can\'t have sources compiled', ('POST', '/build', b'{"source": ""}'), {**JSON, 'Origin': 'http://example.org'}, 403),
-    ('a form of another page can\'t either', ('POST', '/build', b'{"source": ""}'), {'Content_Type': 'text/plain'}, 403),
-    ('what is no source is refused', ('POST', '/build', b'[]'), JSON, 400),
-    ('a source that is refused has no module', ('POST', '/build', b'{"source": ""}'), JSON, 422),
-    ('a request that is too long isn\'t read', ('POST', '/build', b' ' * 3_000_000), JSON, 413),
-]
-
-
-def try_server(address, told, word):
-    """Tries the requests whose names hold the word, one by one."""
-    for name, request, headers, wanted in REQUESTS:
-        if word in name:
-            try:
-                came = status_of(address, *request, **headers)
-            except (ConnectionResetError, BrokenPipeError):
-                came = 413      # the server has answered and gone before all was sent
-            told.count(name, None if came == wanted else 'expected the status %d, and came %d' % (wanted, came))
-    if word in OUTSIDE_NAME:
-        told.count(OUTSIDE_NAME, reached_from_outside(urlsplit(address).port))
-
-
-def reached_from_outside(port):
-    """Which address of this machine but that of the loop reaches the server, or None."""
-    with contextlib.suppress(OSError):
-        for _, _, _, _, (host, *_) in socket.getaddrinfo(socket.gethostname(), port, socket.AF_INET, socket.SOCK_STREAM):
-            if not host.startswith('127.'):
-                with contextlib.suppress(OSError), socket.create_connection((host, port), 2):
-                    return 'it is reached by %s' % host
-    return None
-
-
-def script_differs(program):
-    """Where examples.js is something else than `gather` writes, or None."""
-    writer = gather()
-    stands = {one['name']: one for one in writer.read_script()}
-
-    def stood(name):
-        return stands[name]['trace'], stands[name]['shown']
-    trace = functools.partial(writer.trace_of, program) if traces(program) else stood
-    wanted = writer.script(writer.gathered(trace))
-    with open(writer.WRITTEN, encoding='utf-8') as file:
-        return None if file.read() == wanted else 'it isn\'t as `hosts/web/gather PROGRAM` writes it'
+def script_differs(name, text):
+    """Where a script is something else than `gather` writes, or None."""
+    return None if report.text_of('hosts', 'web', name) == text else 'it isn\'t as `hosts/web/gather PROGRAM` writes it'
 
 
 # The page, in a browser.
@@ -255,7 +182,7 @@ def gets_its_input(page):
 def is_refused(page):
     write(page, REFUSED)
     expect('the output', ['', ''], run(page))
-    marked = "[[...byId('lines').children].findIndex((one) => one.matches('.is-refused')), told.firstChild?.data ?? '']"
+    marked = "[[...byId('lines').children].findIndex((one) => one.matches('.is-refused')), told.querySelector('.head')?.textContent ?? '']"
     expect('the line that is marked', [2, 'Line 3: E06: unexpected token'], page.value(marked))
     page.value("byId('source').focus()")
     page.press('End', CONTROL)
@@ -266,9 +193,9 @@ def is_refused(page):
 def is_explained(page):
     write(page, UNLOOPED)
     run(page)
-    expect('what is said of it', ['Line 3: E35: iter call outside a loop', 'Write `loop .. end;` around the statement.'],
-           page.value("[told.firstChild.data, told.lastChild.textContent]"))
-    expect('lines of the source among it', 0, page.value("[...told.children].filter((one) => one.textContent.includes('|')).length"))
+    expect('what is said of it', ['Line 3: E35: iter call outside a loop', 'Write loop .. end; around the statement.'],
+           page.value("[told.querySelector('.head').textContent, [...told.querySelectorAll('.sentence')].at(-1).textContent]"))
+    expect('lines of the source among it', 0, page.value("[...told.querySelectorAll('*')].filter((one) => one.textContent.includes('|')).length"))
 
 
 def has_a_fault(page):
@@ -300,7 +227,7 @@ def puts_out_too_much(page):
 
 def draws_lives(page):
     write(page, SUMS)
-    page.value("document.querySelector('details').open = true, byId('recorded').value = %s, byId('draw').click()"
+    page.value("document.querySelector('.picture details').open = true, byId('recorded').value = %s, byId('draw').click()"
                % browser.json.dumps(SUMS_TRACE))
     expect('the lanes', ['main', 'upto! 0', 'sum! 1'], page.value(LANES))
     expect('the signs', ['start', 'yield', 'start', 'yield', 'resume', 'yield', 'resume', 'yield', 'resume', 'quit', 'abandon'],
@@ -328,7 +255,7 @@ def draws_what_a_terminal_shows(page):
     """A trace with the output between its lines is drawn with this output."""
     lines = SUMS_TRACE.splitlines(keepends=True)
     write(page, SUMS)
-    page.value("document.querySelector('details').open = true, byId('recorded').value = %s, byId('draw').click()"
+    page.value("document.querySelector('.picture details').open = true, byId('recorded').value = %s, byId('draw').click()"
                % browser.json.dumps(''.join([*lines[:4], '1 ', *lines[4:8], '3 ', *lines[8:], '\n'])))
     expect('the lanes', ['main', 'upto! 0', 'sum! 1'], page.value(LANES))
     page.value('picture.go(3)')
@@ -431,6 +358,7 @@ def opens_as_a_file(page):
     expect('the output', examples.bytes_of('fringe.out').decode(), page.value('output.textContent'))
     expect('whether it has a picture', True, page.value('picture.events.length > 0'))
     expect('whether there is nothing to run', True, page.value('!runButton.checkVisibility() && !traceButton.checkVisibility()'))
+    marks.marks_old_recordings(page)
     draws_lives(page)
     steps(page)
 
@@ -440,6 +368,7 @@ TRIES = [
     ('a source is highlighted as it stands', is_highlighted),
     ('a program reads its input', gets_its_input), ('a refusal is marked in its line', is_refused),
     ('a refusal is explained', is_explained),
+    *marks.OF_OLD, *marks.OF_REFUSALS,
     ('a fault is marked in its line', has_a_fault), ('a run ends by itself when its time is up', ends_by_itself),
     ('a run is stopped', is_stopped), ('a run that puts out too much is ended', puts_out_too_much),
     ('a trace that was recorded is drawn', draws_lives), ('the picture goes forward and back', steps),
@@ -447,7 +376,7 @@ TRIES = [
     ('lanes are drawn inside one another', draws_nested_lives),
     ('source, output and lanes are seen together', shows_it_at_once),
     ('the page looks right on each screen, in the light and in the dark', looks_right),
-    ('the page needs no mouse', needs_no_mouse),
+    ('the page needs no mouse', needs_no_mouse), *reading.TRIES,
     *(('examples/%s.sa' % name, runs_example(name)) for name in examples.names()),
     ('the page opens as a file', opens_as_a_file),
 ]
@@ -455,7 +384,7 @@ TRACED = [('what is typed is traced', traces_what_is_typed), ('a trace without e
           *lessons.LESSONS]
 
 
-def in_browser(page, name, try_it, folder):
+def in_browser(page, name, try_it, folder=None):
     """What is wrong by a try, or None. A picture of the page is kept where a folder is given."""
     page.complaints.clear()
     try:
@@ -482,19 +411,29 @@ def try_pages(address, told, chosen, folder):
     return None
 
 
+def try_folder(program, told, word):
+    """Tries a folder of `pack` in a browser of its own."""
+    with browser.Browser() as page:
+        page.size(1280, 900)
+        packed.try_all(program, told, page, word, in_browser)
+
+
 def try_all(program, told, word='', folder=None):
     """Tries what has a name that holds the word."""
     tries = [*TRIES[:-1], *(TRACED if traces(program) else []), TRIES[-1]]
     chosen = [one for one in tries if word in one[0]]
     told.part('the page', len(chosen))
-    if word in 'hosts/web/examples.js':
-        told.count('hosts/web/examples.js', script_differs(program))
-    with served(program) as address:
-        try_server(address, told, word)
+    if word in 'hosts/web/gather' and traces(program):
+        for name, text in gathering().scripts(program):
+            told.count('hosts/web/' + name, script_differs(name, text))
+    with serving.served(program) as address:
+        serving.try_all(program, address, told, word)
         if not browser.found():
             told.lacks('chromium', 'the page of hosts/web was not tried in a browser')
         elif chosen:
             try_pages(address, told, chosen, folder)
+    if browser.found() and packed.has(word):
+        try_folder(program, told, word)
 
 
 def main():
