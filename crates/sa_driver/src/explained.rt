@@ -5,22 +5,23 @@ ghost use Rattle.sa_driver.specs.HostParts.{part};
 
 use crate::cause::Cause;
 use crate::host_end::{host_end, store_fault};
+use crate::lines::internal_error;
 use crate::memory_end::memory_end;
 use crate::module_end::module_end;
 use crate::outcome::Outcome;
 use crate::requests::Request;
 use crate::retyped::typed_again;
 use crate::usage_end::usage_end;
-use failure::Failure;
+use failure::{Failure, Invariant};
 use host_io::Sink;
 use sa_ast::{FaultKind, Pos, Sources};
 use sa_cli::{Contracts, Detail};
 use sa_explain::{explain_fault, explain_refusals};
 use sa_trace::ErrStatus;
-use std::alloc::Global;
+use std::alloc::{AllocError, Global};
 
 /// Puts on err what explains the final cause of an outcome, if that is asked for and err still listens. Where memory runs out in it, or err
-/// fails, the lines that are there stay as they are.
+/// fails, the lines that are there stay as they are; where an invariant is broken in it, the line of that internal error is in its place.
 pub fn report_more<E: Sink>(
     alloc: Global,
     asked: Request<'_>,
@@ -51,7 +52,18 @@ fn put_explanation<E: Sink>(
 {
     match explanation(alloc, asked, outcome, cause) {
         Ok(text) => put_more(text.as_slice(), err),
-        Err(_) => {}
+        Err(Failure::NoMemory) => {}
+        Err(Failure::Broken(invariant)) => put_internal_error(alloc, invariant, err),
+    }
+}
+
+/// Puts the line of an internal error on err, in place of the explanation.
+fn put_internal_error<E: Sink>(alloc: Global, invariant: Invariant, err: &mut E)
+    ensures { ReportsMore Detail.Explained (part E.output E.faults err.old err.new) }
+{
+    match internal_error(alloc, invariant) {
+        Ok(line) => put_more(line.as_slice(), err),
+        Err(AllocError) => {}
     }
 }
 
@@ -100,6 +112,6 @@ fn fault(
     if pos.file != 0 && kind != FaultKind::Uncaught {
         return explain_fault(alloc, sources, None, kind, pos);
     }
-    let core = typed_again(alloc, sources, contracts);
+    let core = typed_again(alloc, sources, contracts)?;
     explain_fault(alloc, sources, core.as_ref(), kind, pos)
 }

@@ -86,8 +86,8 @@ fn line(alloc: Global, sources: &Sources, file: &str, cause: &Cause) -> Result<V
 /// The line of the cause that memory has run out.
 pub const NO_MEMORY: &[u8] = b"out of memory\n";
 
-/// The line of an internal error.
-fn internal_error(alloc: Global, invariant: Invariant) -> Result<Vec<u8>, AllocError>
+/// The line of an internal error, ended by a line feed.
+pub fn internal_error(alloc: Global, invariant: Invariant) -> Result<Vec<u8>, AllocError>
     ensures { IfOk result (λ line. line.items ≡ internal_error invariant) }
 {
     let mut line = Vec::from_slice(alloc, b"internal error: ")?;

@@ -2,7 +2,9 @@
 
 ghost use Rattle.std.specs.Prelude.{◌↔◌, ◌<◌, All, IsTrue, length};
 
+use crate::cause::Cause;
 use crate::compiler::typed;
+use failure::Failure;
 use sa_ast::Sources;
 use sa_cli::{Contracts, Extent};
 use sa_typed::TypedProgram;
@@ -10,13 +12,24 @@ use sqlite_items::Items;
 use std::alloc::Global;
 
 /// The typed AST of a program of these texts, with or without the checks of its contracts. Nothing where there is none, or no memory.
-pub fn typed_again(alloc: Global, sources: &Sources, contracts: Contracts) -> Option<TypedProgram> {
+///
+/// # Errors
+/// An invariant that is broken in a pass.
+pub fn typed_again(
+    alloc: Global,
+    sources: &Sources,
+    contracts: Contracts,
+) -> Result<Option<TypedProgram>, Failure> {
     let texts = sources.texts.as_slice();
     if !are_short(texts) || texts.len() >= u32::MAX as usize {
-        return None;
+        return Ok(None);
     }
     let mut further = Vec::new(alloc);
-    typed(alloc, texts, contracts, Extent::Needed, &mut further).ok()
+    match typed(alloc, texts, contracts, Extent::Needed, &mut further) {
+        Ok(program) => Ok(Some(program)),
+        Err(Cause::Broken(invariant)) => Err(Failure::Broken(invariant)),
+        Err(_) => Ok(None),
+    }
 }
 
 /// Whether the lines of each text can be counted.
